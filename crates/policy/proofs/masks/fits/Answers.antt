@@ -1,0 +1,15 @@
+use mathlib.Core.Path.{sym, _∙_}
+use Prim.Native.Nat.{_^_, _≤_}
+use native.Mathlib.Omega.{arith}
+use lib.Pow.{pow-mono}
+use Rattle.std.proofs.shelf.Tests.{le-leb, lt-ltb}
+use Rattle.policy.proofs.Bits.{shifted-out}
+use Rattle.policy.proofs.masks.fits.Needs as need
+
+pub returns-then-bits-ge32 : need.returns-then-bits-ge32
+returns-then-bits-ge32 c =
+    let wide : 2 ^ 32 ≤ 2 ^ c .args .bits = pow-mono (c .if-bits-ge32 .taken) in
+    le-leb 32 (c .args .bits) (c .if-bits-ge32 .taken) ∙ sym (lt-ltb (c .args .word) (2 ^ c .args .bits) (omega arith))
+
+pub returns-else-bits-ge32 : need.returns-else-bits-ge32
+returns-else-bits-ge32 c = shifted-out (c .args .word) (c .args .bits)

@@ -1,0 +1,6 @@
+pub mod kind;
+pub mod limits;
+pub mod masks;
+pub mod refusal;
+pub mod rule;
+pub mod watch;
