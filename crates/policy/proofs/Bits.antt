@@ -9,7 +9,7 @@ use lib.Dec.{eqb, ltb}
 use lib.Bits.{bitAnd, bitOr, bitXor, and-shr, and-mod, or-shr, or-mod, xor-shr, xor-mod, and-le-l}
 use Rattle.std.specs.Orderings.{Decides}
 use Rattle.std.proofs.shelf.Tests.{eqb-true, eqb-false, eq-eqb, ne-eqb, lt-ltb, le-ltb, cases-bool, cases-lt, true≢false, false≢true}
-use Rattle.std.proofs.shelf.Bits.{pow-pos, mod-below, div-below, le-div, div-add-mod'}
+use Rattle.std.proofs.shelf.Bits.{pow-pos, mod-below, div-below, le-div, div-add-mod', mod-mul-add, div-mul-add, and-mask}
 use Rattle.std.proofs.shelf.Ways.{tells}
 use Rattle.policy.specs.Masks.{bit, Inside, Apart, inside, apart}
 
@@ -72,6 +72,9 @@ bit-xor = bit-of bitXor differs xor-shr xor-mod refl refl refl refl
 
 eqb-suc : (i k : ℕ) → eqb i k ≡ eqb (suc i) (suc k)
 eqb-suc i k = grind (arith, tells)
+
+ltb-suc : (i k : ℕ) → ltb i k ≡ ltb (suc i) (suc k)
+ltb-suc i k = grind (arith, tells)
 
 -- the word with one bit
 pub bit-pow : (k i : ℕ) → bit (2 ^ k) i ≡ eqb i k
@@ -166,3 +169,21 @@ pub bit-cleared : (m k i : ℕ) → bit (bitXor (bitOr m (2 ^ k)) (2 ^ k)) i ≡
 bit-cleared m k i =
     bit-xor (bitOr m (2 ^ k)) (2 ^ k) i ∙ ap₂ differs (bit-or m (2 ^ k) i ∙ ap (λ (y : Bool). bit m i || y) (bit-pow k i)) (bit-pow k i)
     ∙ cleared-one (bit m i) (eqb i k)
+
+-- the word of all bits below k
+odd-ones : (k : ℕ) → 2 ^ suc k - 1 ≡ (2 ^ k - 1) * 2 + 1
+odd-ones k = omega (arith, pow-suc 2 k, pow-pos k)
+
+pub bit-ones : (k i : ℕ) → bit (2 ^ k - 1) i ≡ ltb i k
+bit-ones zero i = bit-none i ∙ sym (le-ltb i 0 (omega arith))
+bit-ones (suc k) zero =
+    bit-zero (2 ^ suc k - 1) ∙ ap (λ (x : ℕ). eqb x 1) (ap (λ (x : ℕ). x % 2) (odd-ones k) ∙ mod-mul-add (2 ^ k - 1) 2 1 (omega arith))
+    ∙ sym (lt-ltb 0 (suc k) (omega arith))
+bit-ones (suc k) (suc i) =
+    bit-suc (2 ^ suc k - 1) i ∙ ap (λ (x : ℕ). bit x i) (ap (λ (x : ℕ). x / 2) (odd-ones k) ∙ div-mul-add (2 ^ k - 1) 2 1 (omega arith))
+    ∙ bit-ones k i ∙ ltb-suc i k
+
+-- the low bits of a word
+pub bit-low : (m k i : ℕ) → bit (m % 2 ^ k) i ≡ (bit m i && ltb i k)
+bit-low m k i =
+    ap (λ (x : ℕ). bit x i) (sym (and-mask m k)) ∙ bit-and m (2 ^ k - 1) i ∙ ap (λ (b : Bool). bit m i && b) (bit-ones k i)

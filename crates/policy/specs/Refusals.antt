@@ -1,7 +1,11 @@
 -- What each refusal is reported as. Assumes nothing.
+use mathlib.Core.Bool.{Bool, true, cond, _&&_}
+use mathlib.Core.List.{List, [], _∷_}
 use Prim.Native.Nat.{ℕ}
 use Rattle.std.specs.declared.option.Option.{Option}
 use Rattle.std.specs.declared.option.Option.the-variants.{Some, None}
+use Rattle.std.specs.declared.result.Result.{Result}
+use Rattle.std.specs.declared.result.Result.the-variants.{Ok, Err}
 use Rattle.policy.specs.declared.refusal.Refusal.{Refusal}
 use Rattle.policy.specs.declared.refusal.Refusal.the-variants.{SizeOutOfRange, SizeTooLate, UnknownKind, RoleOutOfRange, BadSchedule, NeedSharesBar, GradeTooHigh, BadRow, NoSuchPermission, OutsideRoleSchedule, BadLength, OtherToll, WatchOutOfRange, TooManyLines, BadMask, BadValue, TooManyRules, NoSuchRule, ClockAtEnd, OutsideRuleSchedule, OfficerLacksRole, RoleNotEnabled, NeedOrBarFails, ListedMaskCarries, PresentMaskNotListed, StepNotListed, TooManyRoles, TableTooShort, BufferTooShort, UnreadableLine, WrongStage, TextTooLong, OutputTooShort}
 
@@ -51,3 +55,27 @@ report UnreadableLine = plain 50
 report WrongStage = plain 51
 report TextTooLong = plain 52
 report OutputTooShort = plain 53
+
+-- a test, and the refusal where it fails
+abbrev pub Test : Type 0
+Test = Bool × Refusal
+
+-- whether every test passes
+abbrev pub passes : List Test → Bool
+passes [] = true
+passes (test ∷ tests) = test .0 && passes tests
+
+-- the refusal of the first test that fails
+abbrev pub first-failing : List Test → Option Refusal
+first-failing [] = None
+first-failing (test ∷ tests) = cond (test .0) (first-failing tests) (Some (test .1))
+
+-- what a call answers that is refused so, or else answers x
+abbrev pub answered : {X : Type 0} → Option Refusal → X → Result X Refusal
+answered None x = Ok x
+answered (Some refusal) x = Err refusal
+
+-- the same answer with f of what it holds
+abbrev pub mapped-ok : {X Y : Type 0} → (X → Y) → Result X Refusal → Result Y Refusal
+mapped-ok f (Ok x) = Ok (f x)
+mapped-ok f (Err refusal) = Err refusal

@@ -1,6 +1,6 @@
 ghost use mathlib.Core.Path.{_≡_};
 ghost use mathlib.Core.Bool.{Bool, true, false, cond, not};
-ghost use Prim.Native.Nat.{ℕ, _^_, _<_};
+ghost use Prim.Native.Nat.{ℕ, _^_, _<_, _-_, min};
 ghost use lib.Dec.{eqb, ltb};
 ghost use Rattle.std.specs.Orderings.{Decides};
 ghost use Rattle.policy.specs.Masks.{bit, Inside, Apart, Shares, inside, apart};
@@ -46,4 +46,11 @@ pub fn with_bit(mask: u16, index: u32, set: bool) -> u16
     }
     let one = 1u16 << index;
     if set { mask | one } else { (mask | one) ^ one }
+}
+
+// The mask of all roles below that number, at most 16.
+pub fn all_below(roles: u32) -> u16
+    ensures { λ r. ⌜ r ≡ 2 ^ min roles 16 - 1 ⌝ }
+{
+    ((1u32 << roles.min(16)) - 1) as u16
 }
