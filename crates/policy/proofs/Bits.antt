@@ -3,15 +3,15 @@ use mathlib.Core.Path.{_≡_, refl, sym, ap, ap₂, _∙_, subst}
 use mathlib.Core.Logic.{_⊎_, inl, inr, ⊎-elim}
 use mathlib.Core.Bool.{Bool, true, false, cond, not, _&&_, _||_}
 use Prim.Native.Nat.{ℕ, zero, suc, _+_, _-_, _*_, _/_, _%_, _^_, _≤_, _<_}
-use native.Mathlib.Nat.{pow-suc, pow-succ', div-div-eq-div-mul, div-one, mul-mod-left, mul-div-cancel}
+use native.Mathlib.Nat.{pow-suc, pow-succ', div-div-eq-div-mul, div-one, mul-mod-left, mul-div-cancel, mod-le}
 use native.Mathlib.Omega.{arith}
 use lib.Dec.{eqb, ltb}
 use lib.Bits.{bitAnd, bitOr, bitXor, and-shr, and-mod, or-shr, or-mod, xor-shr, xor-mod, and-le-l}
 use Rattle.std.specs.Orderings.{Decides}
-use Rattle.std.proofs.shelf.Tests.{eqb-true, eqb-false, eq-eqb, ne-eqb, lt-ltb, le-ltb, cases-bool, cases-lt, true≢false, false≢true}
+use Rattle.std.proofs.shelf.Tests.{eqb-true, eqb-false, eq-eqb, ne-eqb, lt-ltb, le-ltb, cases-lt, true≢false, false≢true, and-parts, and-from}
 use Rattle.std.proofs.shelf.Bits.{pow-pos, mod-below, div-below, le-div, div-add-mod', mod-mul-add, div-mul-add, and-mask}
 use Rattle.std.proofs.shelf.Ways.{tells}
-use Rattle.policy.specs.Masks.{bit, Inside, Apart, inside, apart}
+use Rattle.policy.specs.Masks.{bit, Inside, Apart, Shares, inside, apart, shares}
 
 -- a digit of two is 0 or 1
 digit : (m : ℕ) → (m % 2 ≡ 0) ⊎ (m % 2 ≡ 1)
@@ -187,3 +187,40 @@ bit-ones (suc k) (suc i) =
 pub bit-low : (m k i : ℕ) → bit (m % 2 ^ k) i ≡ (bit m i && ltb i k)
 bit-low m k i =
     ap (λ (x : ℕ). bit x i) (sym (and-mask m k)) ∙ bit-and m (2 ^ k - 1) i ∙ ap (λ (b : Bool). bit m i && b) (bit-ones k i)
+
+-- a word whose bits all lie below n
+pub below-from-bits : (n k m : ℕ) → m < 2 ^ n → ((i : ℕ) → bit m i ≡ true → i < k) → m < 2 ^ k
+below-from-bits n k m h low =
+    let same : m % 2 ^ k ≡ m = same-bits n (m % 2 ^ k) m (omega (arith, mod-le m (2 ^ k))) h (λ i l. bit-low m k i ∙ kept i (bit m i) refl) in
+    omega (arith, mod-below m (2 ^ k) (pow-pos k))
+  where
+    kept : (i : ℕ) (b : Bool) → bit m i ≡ b → (b && ltb i k) ≡ b
+    kept i true e = lt-ltb i k (low i e)
+    kept i false e = refl
+
+-- a word that is not 0 has a bit
+pub some-bit : (n m : ℕ) → m < 2 ^ n → (m ≡ 0 → ⊥) → (i : ℕ) × (bit m i ≡ true)
+some-bit zero m h ne = absurd (ne (omega arith))
+some-bit (suc n) m h ne =
+    ⊎-elim
+    (λ even. next (some-bit n (m / 2) (half-below n m h) (λ e. ne (omega (arith, div-add-mod' m 2, e, even)))))
+    (λ odd. (0, bit-zero m ∙ ap (λ (x : ℕ). eqb x 1) odd)) (digit m)
+  where
+    next : (i : ℕ) × (bit (m / 2) i ≡ true) → (i : ℕ) × (bit m i ≡ true)
+    next found = (suc (found .0), bit-suc m (found .0) ∙ found .1)
+
+not-twice : (b : Bool) → not b ≡ true → b ≡ false
+not-twice true h = sym h
+not-twice false h = refl
+
+pub shares-decides : (n a b : ℕ) → a < 2 ^ n → Decides (shares a b) (Shares a b)
+shares-decides n a b h = (found, told)
+  where
+    found : shares a b ≡ true → Shares a b
+    found e =
+        let one = some-bit n (bitAnd a b) (omega (arith, and-le-l a b)) (eqb-false (bitAnd a b) 0 (not-twice (apart a b) e)) in
+        let both = and-parts (bit a (one .0)) (bit b (one .0)) (sym (bit-and a b (one .0)) ∙ one .1) in
+        (one .0, both .0, both .1)
+    told : Shares a b → shares a b ≡ true
+    told shared =
+        ap not (ne-eqb (bitAnd a b) 0 (λ e. false≢true (sym (ap (λ (x : ℕ). bit x (shared .0)) e ∙ bit-none (shared .0)) ∙ bit-and a b (shared .0) ∙ and-from (bit a (shared .0)) (bit b (shared .0)) (shared .1) (shared .2))))

@@ -1,7 +1,7 @@
 -- Laws of policies in tables. Assumes nothing.
 use mathlib.Core.Path.{_≡_, refl, sym, ap, _∙_, subst}
 use mathlib.Core.Logic.{_⊎_, inl, inr, ⊎-elim}
-use mathlib.Core.Bool.{Bool, true, false, cond, _&&_}
+use mathlib.Core.Bool.{Bool, true, false, _&&_}
 use mathlib.Core.List.{List, [], _∷_, _++_}
 use Prim.Native.Nat.{ℕ, zero, suc, _+_, _^_, _≤_, _<_, min}
 use native.Mathlib.Omega.{arith}
@@ -13,14 +13,14 @@ use Rattle.std.specs.declared.option.Option.the-variants.{Some, None}
 use Rattle.std.proofs.shelf.Bits.{pow-pos}
 use Rattle.std.proofs.shelf.Lists.{length-take, getD-take, getD-replicate, getD-past, length-replicate, getD-set-same, getD-set-other, set-past, take-more-set}
 use Rattle.std.proofs.shelf.Maps.{nth-getD, nth-past}
-use Rattle.std.proofs.shelf.Tests.{cases-lt, cases-eq, true≢false, and-parts, and-from, ltb-true}
-use Rattle.policy.specs.Policies.{Policy, Masks-fit, All-proper, proper, as-proposed, proposal-tests, proposed-roles-fit, proposed-schedules-fit, mask-fits, schedule-fits}
+use Rattle.std.proofs.shelf.Tests.{cases-lt, cases-eq, true≢false, and-parts, and-from, ltb-true, leb-true}
+use Rattle.policy.specs.Policies.{Policy, Masks-fit, All-proper, proper, as-proposed, proposal-tests, mask-fits, schedule-fits}
 use Rattle.policy.specs.Masks.{apart}
-use Rattle.policy.specs.Refusals.{Test, first-failing, passes}
+use Rattle.policy.specs.Refusals.{first-failing}
 use Rattle.policy.specs.declared.kind.Kind.{Kind}
-use Rattle.policy.specs.declared.refusal.Refusal.{Refusal}
 use Rattle.policy.specs.declared.rule.ProposedRule.{ProposedRule}
 use Rattle.policy.specs.declared.rule.Rule.{Rule}
+use Rattle.policy.proofs.Passing.{passing}
 
 -- empty permissions lie inside any roles
 pub blank-masks : (roles n : ℕ) → Masks-fit roles (replicate n 0)
@@ -66,16 +66,6 @@ push-proper roles slots rules count rule all room ok number found e =
     ⊎-elim (all number found) (λ same. subst (λ (r : Rule). proper roles slots r ≡ true) same ok)
     (nth-push (take count rules) rule found number (ap (λ (xs : List Rule). nth xs number) (sym (take-more-set rules count rule room)) ∙ e))
 
--- where no test fails, all pass
-by-test : (b : Bool) (refusal : Refusal) (tests : List Test) → (None ≡ first-failing tests → passes tests ≡ true)
-    → None ≡ cond b (first-failing tests) (Some refusal) → (b && passes tests) ≡ true
-by-test true refusal tests rest e = rest e
-by-test false refusal tests rest e = absurd (true≢false (cc))
-
-pub all-passed : (tests : List Test) → None ≡ first-failing tests → passes tests ≡ true
-all-passed [] e = refl
-all-passed (test ∷ tests) e = by-test (test .0) (test .1) tests (all-passed tests) e
-
 -- what an accepted proposal keeps
 pub record Accepted (policy : Policy) (proposed : ProposedRule) : Type 0 where
   pub need : proposed .need < 2 ^ policy .roles
@@ -85,33 +75,65 @@ pub record Accepted (policy : Policy) (proposed : ProposedRule) : Type 0 where
 
 pub accepted : (policy : Policy) (proposed : ProposedRule) → None ≡ first-failing (proposal-tests policy proposed) → Accepted policy proposed
 accepted policy proposed e =
-    let within = proposed-roles-fit (policy .roles) proposed in
-    let timed = proposed-schedules-fit (policy .slots) proposed in
-    let distinct = apart (proposed .need) (proposed .bar) in
-    let graded = leb (proposed .grade) 15 in
-    let room = ltb (length (policy .rules)) 64 in
+    let passed = passing (proposal-tests policy proposed) e in
     let officer = ltb (proposed .officer) (policy .roles) in
     let need = mask-fits (policy .roles) (proposed .need) in
     let bar = mask-fits (policy .roles) (proposed .bar) in
     let role = ltb (proposed .role) (policy .roles) in
     let rule-time = schedule-fits (policy .slots) (proposed .«rule_schedule») in
     let role-time = schedule-fits (policy .slots) (proposed .«role_schedule») in
-    let p1 = and-parts within (timed && (distinct && (graded && (room && true)))) (all-passed (proposal-tests policy proposed) e) in
-    let p2 = and-parts timed (distinct && (graded && (room && true))) (p1 .1) in
-    let p3 = and-parts distinct (graded && (room && true)) (p2 .1) in
-    let p4 = and-parts graded (room && true) (p3 .1) in
-    let p5 = and-parts room true (p4 .1) in
-    let r1 = and-parts officer (need && (bar && role)) (p1 .0) in
+    let distinct = apart (proposed .need) (proposed .bar) in
+    let graded = leb (proposed .grade) 15 in
+    let r1 = and-parts officer (need && (bar && role)) (passed .0) in
     let r2 = and-parts need (bar && role) (r1 .1) in
     let r3 = and-parts bar role (r2 .1) in
-    let s1 = and-parts rule-time role-time (p2 .0) in
-    let both = and-from distinct graded (p3 .0) (p4 .0) in
+    let s1 = and-parts rule-time role-time (passed .1 .0) in
+    let both = and-from distinct graded (passed .1 .1 .0) (passed .1 .1 .1 .0) in
     let times = and-from rule-time (role-time && (distinct && graded)) (s1 .0) (and-from role-time (distinct && graded) (s1 .1) both) in
     let tail = rule-time && (role-time && (distinct && graded)) in
     let last = and-from bar (role && tail) (r3 .0) (and-from role tail (r3 .1) times) in
     record {
       need = ltb-true (proposed .need) (2 ^ policy .roles) (r2 .0);
       bar = ltb-true (proposed .bar) (2 ^ policy .roles) (r3 .0);
-      room = ltb-true (length (policy .rules)) 64 (p5 .0);
+      room = ltb-true (length (policy .rules)) 64 (passed .1 .1 .1 .1 .0);
       proper = λ kind. and-from officer (need && (bar && (role && tail))) (r1 .0) (and-from need (bar && (role && tail)) (r2 .0) last);
+    }
+
+-- what a proper rule keeps, by name
+pub record Kept-by (roles slots : ℕ) (rule : Rule) : Type 0 where
+  pub officer : rule .officer < roles
+  pub need : rule .need < 2 ^ roles
+  pub bar : rule .bar < 2 ^ roles
+  pub role : rule .role < roles
+  pub rule-schedule : schedule-fits slots (rule .«rule_schedule») ≡ true
+  pub role-schedule : schedule-fits slots (rule .«role_schedule») ≡ true
+  pub distinct : apart (rule .need) (rule .bar) ≡ true
+  pub grade : rule .grade ≤ 15
+
+pub kept-by : (roles slots : ℕ) (rule : Rule) → proper roles slots rule ≡ true → Kept-by roles slots rule
+kept-by roles slots rule e =
+    let officer = ltb (rule .officer) roles in
+    let need = mask-fits roles (rule .need) in
+    let bar = mask-fits roles (rule .bar) in
+    let role = ltb (rule .role) roles in
+    let rule-time = schedule-fits slots (rule .«rule_schedule») in
+    let role-time = schedule-fits slots (rule .«role_schedule») in
+    let distinct = apart (rule .need) (rule .bar) in
+    let graded = leb (rule .grade) 15 in
+    let p1 = and-parts officer (need && (bar && (role && (rule-time && (role-time && (distinct && graded)))))) e in
+    let p2 = and-parts need (bar && (role && (rule-time && (role-time && (distinct && graded))))) (p1 .1) in
+    let p3 = and-parts bar (role && (rule-time && (role-time && (distinct && graded)))) (p2 .1) in
+    let p4 = and-parts role (rule-time && (role-time && (distinct && graded))) (p3 .1) in
+    let p5 = and-parts rule-time (role-time && (distinct && graded)) (p4 .1) in
+    let p6 = and-parts role-time (distinct && graded) (p5 .1) in
+    let p7 = and-parts distinct graded (p6 .1) in
+    record {
+      officer = ltb-true (rule .officer) roles (p1 .0);
+      need = ltb-true (rule .need) (2 ^ roles) (p2 .0);
+      bar = ltb-true (rule .bar) (2 ^ roles) (p3 .0);
+      role = ltb-true (rule .role) roles (p4 .0);
+      rule-schedule = p5 .0;
+      role-schedule = p6 .0;
+      distinct = p7 .0;
+      grade = leb-true (rule .grade) 15 (p7 .1);
     }

@@ -1,7 +1,7 @@
 -- Masks and schedules: numbers whose bits stand for roles or slots. Assumes nothing.
 use mathlib.Core.Path.{_≡_}
-use mathlib.Core.Bool.{Bool, true, false, cond, _&&_}
-use Prim.Native.Nat.{ℕ, zero, suc, _+_, _/_, _%_, _^_}
+use mathlib.Core.Bool.{Bool, true, false, not}
+use Prim.Native.Nat.{ℕ, _/_, _%_, _^_}
 use lib.Dec.{eqb}
 use lib.Bits.{bitAnd}
 
@@ -21,9 +21,12 @@ Apart a b = (i : ℕ) → bit a i ≡ true → bit b i ≡ false
 abbrev pub Shares : ℕ → ℕ → Type 0
 Shares a b = (i : ℕ) × (bit a i ≡ true) × (bit b i ≡ true)
 
--- the first two as tests of words
+-- the same three as tests of words
 abbrev pub inside : ℕ → ℕ → Bool
 inside a b = eqb (bitAnd a b) a
 
 abbrev pub apart : ℕ → ℕ → Bool
 apart a b = eqb (bitAnd a b) 0
+
+abbrev pub shares : ℕ → ℕ → Bool
+shares a b = not (apart a b)

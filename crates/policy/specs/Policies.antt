@@ -29,6 +29,10 @@ pub record Policy : Type 0 where
 abbrev pub Is-rule : Policy → ℕ → Rule → Type 0
 Is-rule policy number rule = nth (policy .rules) number ≡ Some rule
 
+-- the roles that give a permission
+abbrev pub permission-mask : Policy → ℕ → ℕ
+permission-mask policy permission = getD (policy .permissions) permission 0
+
 -- a policy of that size with no rule, and with no role in any permission
 abbrev pub blank : ℕ → ℕ → ℕ → Policy
 blank roles slots persons = record { roles = roles; slots = slots; persons = persons; permissions = replicate 32 0; rules = [] }

@@ -1,5 +1,5 @@
 -- What each refusal is reported as. Assumes nothing.
-use mathlib.Core.Bool.{Bool, true, cond, _&&_}
+use mathlib.Core.Bool.{Bool, cond}
 use mathlib.Core.List.{List, [], _∷_}
 use Prim.Native.Nat.{ℕ}
 use Rattle.std.specs.declared.option.Option.{Option}
@@ -59,11 +59,6 @@ report OutputTooShort = plain 53
 -- a test, and the refusal where it fails
 abbrev pub Test : Type 0
 Test = Bool × Refusal
-
--- whether every test passes
-abbrev pub passes : List Test → Bool
-passes [] = true
-passes (test ∷ tests) = test .0 && passes tests
 
 -- the refusal of the first test that fails
 abbrev pub first-failing : List Test → Option Refusal

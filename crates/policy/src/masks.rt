@@ -3,7 +3,7 @@ ghost use mathlib.Core.Bool.{Bool, true, false, cond, not};
 ghost use Prim.Native.Nat.{ℕ, _^_, _<_, _-_, min};
 ghost use lib.Dec.{eqb, ltb};
 ghost use Rattle.std.specs.Orderings.{Decides};
-ghost use Rattle.policy.specs.Masks.{bit, Inside, Apart, Shares, inside, apart};
+ghost use Rattle.policy.specs.Masks.{bit, Inside, Apart, Shares, inside, apart, shares};
 
 // Masks of roles and schedules of slots are words: bit 0, the least, stands for role 0 or slot 0.
 
@@ -28,6 +28,14 @@ pub fn are_apart(a: u32, b: u32) -> bool
     ensures meaning { λ r. ⌜ Decides r (Apart a b) ⌝ }
 {
     a & b == 0
+}
+
+// Whether the two words have a bit in common.
+pub fn share_bit(a: u32, b: u32) -> bool
+    ensures answer { λ r. ⌜ r ≡ shares a b ⌝ }
+    ensures meaning { λ r. ⌜ Decides r (Shares a b) ⌝ }
+{
+    a & b != 0
 }
 
 // Whether all bits of the word lie below that index.

@@ -4,7 +4,7 @@ ghost use Prim.Native.Nat.{ℕ, _≤_};
 ghost use lib.ListN.{length, getD};
 ghost use Rattle.std.specs.Finite.{nth};
 ghost use Rattle.std.specs.Results.{Cases};
-ghost use Rattle.policy.specs.Policies.{blank, with-permission, with-proposed, schedule-fits, mask-fits, size-tests, permission-tests, rule-tests, proposed-roles-fit, proposal-tests, proposed-roles-fit, proposed-schedules-fit};
+ghost use Rattle.policy.specs.Policies.{blank, permission-mask, with-permission, with-proposed, schedule-fits, mask-fits, size-tests, permission-tests, rule-tests, proposed-roles-fit, proposal-tests, proposed-roles-fit, proposed-schedules-fit};
 ghost use Rattle.policy.specs.Refusals.{first-failing, answered, mapped-ok};
 ghost use Rattle.policy.specs.Tables.{policy-of};
 use crate::kind::Kind;
@@ -108,14 +108,14 @@ impl PolicyTable {
         fits(mask, self.roles)
     }
 
-    // The mask of a permission; none from 32 on.
-    pub fn permission(&self, number: u32) -> Option<u16>
-        ensures { λ r. ⌜ r ≡ nth (policy-of (now (self .entry)) .permissions) number ⌝ }
+    // The mask of a permission; a permission from 32 on has no role.
+    pub fn permission_mask(&self, permission: u32) -> u16
+        ensures { λ r. ⌜ r ≡ permission-mask (policy-of (now (self .entry))) permission ⌝ }
     {
-        if number >= 32 {
-            return None;
+        if permission >= 32 {
+            return 0;
         }
-        Some(self.permissions[number as usize])
+        self.permissions[permission as usize]
     }
 
     // The rule with that number.

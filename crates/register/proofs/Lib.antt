@@ -1,0 +1,6 @@
+pub mod Refused
+pub mod OfRoles
+pub mod Acting
+pub mod WellFormed
+pub mod Allowing
+pub mod Using

@@ -1,0 +1,4 @@
+pub mod Drafts
+pub mod States
+pub mod Acts
+pub mod Uses

@@ -1,0 +1,6 @@
+pub mod call;
+pub mod draft;
+pub mod in_force;
+
+mod acts;
+mod uses;
