@@ -2,3 +2,4 @@ pub mod Drafts
 pub mod States
 pub mod Acts
 pub mod Uses
+pub mod Calls

@@ -16,3 +16,10 @@ pub enum Call {
     Act { rule: u32, officer: u32, target: u32, part: u32 },
     May { person: u32, permission: u32 },
 }
+
+// What a register in force answers to a call that it accepts.
+#[derive(Clone, Copy)]
+pub enum Answer {
+    Done,
+    MayUse(bool),
+}

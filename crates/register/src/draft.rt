@@ -13,6 +13,7 @@ use policy::table::PolicyTable;
 use roster::traits::Roster;
 
 // A register that is still being set up: it takes sizes, holdings, permissions and rules, and no act.
+#[derive(Drop)]
 pub struct Draft<R> {
     table: PolicyTable,
     roster: R,

@@ -2,6 +2,7 @@ ghost use Prim.Native.Nat.{_≤_};
 use policy::table::PolicyTable;
 
 // A register in force: its policy stays, its clock ticks, and acts change what its roster holds.
+#[derive(Drop)]
 pub struct Register<R> {
     pub(crate) table: PolicyTable,
     pub(crate) roster: R,

@@ -3,4 +3,5 @@ pub mod draft;
 pub mod in_force;
 
 mod acts;
+mod run;
 mod uses;

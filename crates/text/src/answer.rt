@@ -1,0 +1,60 @@
+ghost use Prim.Native.Nat.{_*_, _≤_, _<_};
+ghost use lib.ListN.{length};
+ghost use Rattle.std.specs.Vec.{made};
+use crate::command::Command;
+use crate::session::Session;
+use policy::refusal::Refusal;
+use roster::traits::Roster;
+
+// the longest text that is answered, in bytes
+pub const MAX_TEXT: usize = 5000;
+// the bytes of output that each byte of text may need
+pub const OUTPUT_PER_BYTE: usize = 11;
+
+// Executes a plan line by line over the roster, which is emptied first, and writes a line of output for each. Answers how
+// many bytes were written.
+pub fn answer<R: Roster + Drop>(roster: R, text: &[u8], out: &mut [u8]) -> Result<usize, Refusal>
+    ensures { λ r. ⌜ made r (λ written. written ≤ length (now (out .exit))) ⌝ }
+{
+    if text.len() > MAX_TEXT {
+        return Err(Refusal::TextTooLong);
+    }
+    if out.len() < OUTPUT_PER_BYTE * text.len() {
+        return Err(Refusal::OutputTooShort);
+    }
+    Ok(answer_lines(Session::begin(roster), text, out))
+}
+
+// Executes every line of the text, one after the other.
+fn answer_lines<R: Roster + Drop>(begun: Session<R>, text: &[u8], out: &mut [u8]) -> usize
+    requires { ⌜ 11 * length (now text) ≤ length (now out) ⌝ }
+    ensures { λ r. ⌜ r ≤ length (now (out .exit)) ⌝ }
+{
+    let mut session = begun;
+    let mut written = 0;
+    let mut number = 0u32;
+    let mut at = 0;
+    while at < text.len() {
+        let end = line_end(text, at);
+        let (next, reply) = session.execute(Command::read(&text[at..end], number));
+        session = next;
+        written = reply.write(out, written);
+        number = number.saturating_add(1);
+        at = end + 1;
+    }
+    written
+}
+
+// Where the line that begins there ends: at a line feed, or at the end of the text.
+fn line_end(text: &[u8], from: usize) -> usize
+    requires { ⌜ from < length (now text) ⌝ }
+    ensures low { λ r. ⌜ from ≤ r ⌝ }
+    ensures high { λ r. ⌜ r ≤ length (now (text .entry)) ⌝ }
+{
+    for at in from..text.len() {
+        if text[at] == b'\n' {
+            return at;
+        }
+    }
+    text.len()
+}

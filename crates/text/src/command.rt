@@ -1,0 +1,110 @@
+use crate::line::Line;
+use crate::word::Word;
+use policy::kind::Kind;
+use policy::rule::ProposedRule;
+use register::call::Call;
+use register::call::DraftCall;
+
+// What a readable line asks for.
+#[derive(Clone, Copy)]
+pub enum Command {
+    Draft(DraftCall),
+    Force,
+    InForce(Call),
+}
+
+impl Command {
+    // The command that the line spells, if it is readable.
+    pub fn read(bytes: &[u8], number: u32) -> Option<Command> {
+        let mut line = Line::new(bytes, number);
+        let Word::Name { part, .. } = line.word()? else {
+            return None;
+        };
+        let command = named(part, &mut line)?;
+        if line.is_over() { Some(command) } else { None }
+    }
+}
+
+// The command of that name, with what the line says of it.
+fn named(name: &[u8], line: &mut Line) -> Option<Command> {
+    match name {
+        b"size" => size(line),
+        b"put" => put(line),
+        b"perm" => perm(line),
+        b"rule" => rule(line),
+        b"force" => Some(Command::Force),
+        b"tick" => Some(Command::InForce(Call::Tick)),
+        b"act" => act(line),
+        b"may" => may(line),
+        _ => None,
+    }
+}
+
+fn size(line: &mut Line) -> Option<Command> {
+    Some(Command::Draft(DraftCall::Size {
+        roles: line.number()?,
+        slots: line.number()?,
+        persons: line.number()?,
+    }))
+}
+
+fn put(line: &mut Line) -> Option<Command> {
+    Some(Command::Draft(DraftCall::Put {
+        row: line.number()?,
+        role: line.number()?,
+        schedule: line.number()?,
+    }))
+}
+
+fn perm(line: &mut Line) -> Option<Command> {
+    Some(Command::Draft(DraftCall::Perm {
+        permission: line.number()?,
+        mask: line.number()?,
+    }))
+}
+
+fn rule(line: &mut Line) -> Option<Command> {
+    Some(Command::Draft(DraftCall::Rule(ProposedRule {
+        kind: kind(line)?,
+        officer: line.number()?,
+        rule_schedule: line.number()?,
+        need: line.number()?,
+        bar: line.number()?,
+        role_schedule: line.number()?,
+        role: line.number()?,
+        grade: line.number()?,
+    })))
+}
+
+// A kind is one byte; a byte that names no kind is readable, and the draft refuses it.
+fn kind(line: &mut Line) -> Option<Option<Kind>> {
+    let (Word::Letter { part, .. } | Word::Digits { part, .. }) = line.word()? else {
+        return None;
+    };
+    let [letter] = part else {
+        return None;
+    };
+    Some(match char::from(*letter) {
+        'e' => Some(Kind::Enable),
+        'd' => Some(Kind::Disable),
+        'a' => Some(Kind::Assign),
+        'r' => Some(Kind::Revoke),
+        _ => None,
+    })
+}
+
+fn act(line: &mut Line) -> Option<Command> {
+    Some(Command::InForce(Call::Act {
+        rule: line.number()?,
+        officer: line.number()?,
+        target: line.number()?,
+        part: line.number()?,
+    }))
+}
+
+fn may(line: &mut Line) -> Option<Command> {
+    Some(Command::InForce(Call::May {
+        person: line.number()?,
+        permission: line.number()?,
+    }))
+}
