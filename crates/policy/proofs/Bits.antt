@@ -221,6 +221,7 @@ shares-decides n a b h = (found, told)
         let one = some-bit n (bitAnd a b) (omega (arith, and-le-l a b)) (eqb-false (bitAnd a b) 0 (not-twice (apart a b) e)) in
         let both = and-parts (bit a (one .0)) (bit b (one .0)) (sym (bit-and a b (one .0)) ∙ one .1) in
         (one .0, both .0, both .1)
+
     told : Shares a b → shares a b ≡ true
     told shared =
         ap not (ne-eqb (bitAnd a b) 0 (λ e. false≢true (sym (ap (λ (x : ℕ). bit x (shared .0)) e ∙ bit-none (shared .0)) ∙ bit-and a b (shared .0) ∙ and-from (bit a (shared .0)) (bit b (shared .0)) (shared .1) (shared .2))))

@@ -93,18 +93,31 @@ module _ (st : State) (fine : Well-formed st) (number officer target part : ℕ)
       let on-row = leb target persons in
       let on-changed = changes (rule .kind) target in
       let slots = st .policy .slots in
-      let fit = and-from on-row on-changed (le-leb target persons (a .on-row)) (a .on-changed-row) in
-      (and-from (leb 1 officer) (leb officer persons && (on-row && on-changed)) (le-leb 1 officer (a .by-person .from-one))
-         (and-from (leb officer persons) (on-row && on-changed) (le-leb officer persons (a .by-person .to-last)) fit),
-       (and-from (ltb 0 part) (ltb part (2 ^ slots)) (lt-ltb 0 part (a .some-slot)) (lt-ltb part (2 ^ slots) (below-from-bits 32 slots part word (a .in-slots))),
-       (inside-decides 32 part (rule .«role_schedule») word .1 (a .in-role-schedule),
-       (a .in-rule-schedule,
-       (a .officer-holds,
-       (a .enabled,
-       (every-from slots (meets-at (st .held) rule target part)
-          (λ slot l. part-by (bit part slot) (meets rule (mask (st .held) target slot))
-            (λ h. meets-from rule (a .is-rule) slot (λ role. a .holds-need slot role h) (λ role. a .lacks-bar slot role h))),
-       tt)))))))
+      let fit = and-from on-row on-changed (le-leb target persons (a .on-row)) (a .on-changed-row) in (
+        and-from (leb 1 officer) (leb officer persons && (on-row && on-changed)) (le-leb 1 officer (a .by-person .from-one))
+            (and-from (leb officer persons) (on-row && on-changed) (le-leb officer persons (a .by-person .to-last)) fit),
+        (
+          and-from (ltb 0 part) (ltb part (2 ^ slots)) (lt-ltb 0 part (a .some-slot)) (lt-ltb part (2 ^ slots) (below-from-bits 32 slots part word (a .in-slots))),
+          (
+            inside-decides 32 part (rule .«role_schedule») word .1 (a .in-role-schedule),
+            (
+              a .in-rule-schedule,
+              (
+                a .officer-holds,
+                (
+                  a .enabled,
+                  (
+                    every-from slots (meets-at (st .held) rule target part)
+                        (λ slot l. part-by (bit part slot) (meets rule (mask (st .held) target slot))
+                        (λ h. meets-from rule (a .is-rule) slot (λ role. a .holds-need slot role h) (λ role. a .lacks-bar slot role h))),
+                    tt,
+                  ),
+                ),
+              ),
+            ),
+          ),
+        ),
+      )
 
   by-found : (found : Option Rule) → nth (st .policy .rules) number ≡ found → None ≡ refusal-by found st officer target part → Allowed st number officer target part
   by-found None e none = absurd (true≢false (cc))

@@ -27,15 +27,15 @@ mask-of-roles roles held row slot =
     is-mask (of-roles roles held) row slot (bitAnd (mask held row slot) (2 ^ roles - 1))
     (omega (arith, and-le-l (mask held row slot) (2 ^ roles - 1), mask-below held row slot))
     (λ i h.
-      ap (λ (m : ℕ). bit m i) (and-mask (mask held row slot) roles) ∙ bit-low (mask held row slot) roles i
-      ∙ and-turned (bit (mask held row slot) i) (ltb i roles) ∙ ap (λ (b : Bool). ltb i roles && b) (bit-mask held row slot i h))
+    ap (λ (m : ℕ). bit m i) (and-mask (mask held row slot) roles) ∙ bit-low (mask held row slot) roles i
+    ∙ and-turned (bit (mask held row slot) i) (ltb i roles) ∙ ap (λ (b : Bool). ltb i roles && b) (bit-mask held row slot i h))
 
 -- each bit of that mask, also past the roles
 pub bit-of-roles : (roles : ℕ) (held : Held) (row slot role : ℕ) → roles ≤ 16 → bit (mask (of-roles roles held) row slot) role ≡ of-roles roles held row slot role
 bit-of-roles roles held row slot role few =
     ⊎-elim (bit-mask (of-roles roles held) row slot role)
     (λ h. bit-past 16 (mask (of-roles roles held) row slot) role (mask-below (of-roles roles held) row slot) h
-      ∙ sym (ap (λ (b : Bool). b && held row slot role) (le-ltb role roles (omega arith))))
+    ∙ sym (ap (λ (b : Bool). b && held row slot role) (le-ltb role roles (omega arith))))
     (cases-lt role 16)
 
 -- a test that fails below n
@@ -43,7 +43,7 @@ pub every-fails : (n : ℕ) (test : ℕ → Bool) (k : ℕ) → k < n → test k
 every-fails zero test k h e = absurd (omega arith)
 every-fails (suc n) test k h e =
     ⊎-elim (λ same. sym (ap (λ (b : Bool). b && every n test) (sym (ap test same) ∙ e)))
-    (λ ne. every-fails n test k (omega arith) e ∙ sym (right (test n) (every n test) (sym (every-fails n test k (omega arith) e)) ) ∙ refl) (cases-eq k n)
+    (λ ne. every-fails n test k (omega arith) e ∙ sym (right (test n) (every n test) (sym (every-fails n test k (omega arith) e))) ∙ refl) (cases-eq k n)
   where
     right : (x y : Bool) → y ≡ false → (x && y) ≡ y
     right true y h = refl
@@ -73,5 +73,5 @@ pub changed-of-roles : (roles : ℕ) (held : Held) (to : Bool) (row role schedul
 changed-of-roles roles held to row role schedule small low few =
     ap (of-roles roles) (cond-true (ltb row 16 && ltb role 16) (altered to row role schedule held) held (and-from (ltb row 16) (ltb role 16) (lt-ltb row 16 small) (lt-ltb role 16 (omega arith))))
     ∙ fun-ext (λ r. fun-ext (λ s. fun-ext (λ i.
-      within-cond (eqb r row && (eqb i role && bit schedule s)) (ltb i roles) to (held r s i)
-      (λ e. lt-ltb i roles (omega (arith, eqb-true i role (and-parts (eqb i role) (bit schedule s) (and-parts (eqb r row) (eqb i role && bit schedule s) e .1) .0), low))))))
+    within-cond (eqb r row && (eqb i role && bit schedule s)) (ltb i roles) to (held r s i)
+    (λ e. lt-ltb i roles (omega (arith, eqb-true i role (and-parts (eqb i role) (bit schedule s) (and-parts (eqb r row) (eqb i role && bit schedule s) e .1) .0), low))))))

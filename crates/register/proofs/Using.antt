@@ -33,10 +33,11 @@ module _ (st : State) (fine : Well-formed st) (person permission : ℕ) where
       }
 
   shared : Uses st person permission → Shares (bitAnd own enabling) (permission-mask (st .policy) permission)
-  shared u =
-      (u .role,
-       bit-and own enabling (u .role) ∙ and-from (bit own (u .role)) (bit enabling (u .role)) (bit-held st fine person (slot-now st) (u .role) ∙ u .held-by-person) (bit-held st fine 0 (slot-now st) (u .role) ∙ u .enabled),
-       u .of-permission)
+  shared u = (
+    u .role,
+    bit-and own enabling (u .role) ∙ and-from (bit own (u .role)) (bit enabling (u .role)) (bit-held st fine person (slot-now st) (u .role) ∙ u .held-by-person) (bit-held st fine 0 (slot-now st) (u .role) ∙ u .enabled),
+    u .of-permission,
+  )
 
   pub uses-decides : Decides (may-use st person permission) (Uses st person permission)
   uses-decides =

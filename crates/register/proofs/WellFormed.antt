@@ -45,5 +45,5 @@ pub bit-held : (st : State) → Well-formed st → (row slot role : ℕ) → bit
 bit-held st fine row slot role =
     ⊎-elim (bit-mask (st .held) row slot role)
     (λ h. bit-past 16 (mask (st .held) row slot) role (mask-below (st .held) row slot) h
-      ∙ not-true-false (st .held row slot role) (λ e. omega (arith, fine .held row slot role e, fine .few-roles)))
+    ∙ not-true-false (st .held row slot role) (λ e. omega (arith, fine .held row slot role e, fine .few-roles)))
     (cases-lt role 16)

@@ -107,7 +107,15 @@ impl<R: Roster> Draft<R> {
     pub fn force(self) -> Register<R>
         ensures { λ r. ⌜ state-of held r ≡ in-force (draft-of held self) ⌝ }
     {
-        let Draft { table, roster, fresh: _ } = self;
-        Register { table, roster, clock: 0 }
+        let Draft {
+            table,
+            roster,
+            fresh: _,
+        } = self;
+        Register {
+            table,
+            roster,
+            clock: 0,
+        }
     }
 }

@@ -20,8 +20,16 @@ impl<R: Roster> Draft<R> {
         ensures kept { λ r. ⌜ refused r (λ _. now (self .exit) ≡ now (self .entry)) ⌝ }
     {
         match call {
-            DraftCall::Size { roles, slots, persons } => self.size(roles, slots, persons),
-            DraftCall::Put { row, role, schedule } => self.put(row, role, schedule),
+            DraftCall::Size {
+                roles,
+                slots,
+                persons,
+            } => self.size(roles, slots, persons),
+            DraftCall::Put {
+                row,
+                role,
+                schedule,
+            } => self.put(row, role, schedule),
             DraftCall::Perm { permission, mask } => self.perm(permission, mask),
             DraftCall::Rule(proposed) => match self.rule(proposed) {
                 Ok(_) => Ok(()),
@@ -40,7 +48,12 @@ impl<R: Roster> Register<R> {
     {
         match call {
             Call::Tick => done(self.tick()),
-            Call::Act { rule, officer, target, part } => done(self.act(rule, officer, target, part)),
+            Call::Act {
+                rule,
+                officer,
+                target,
+                part,
+            } => done(self.act(rule, officer, target, part)),
             Call::May { person, permission } => match self.may(person, permission) {
                 Ok(may) => Ok(Answer::MayUse(may)),
                 Err(refusal) => Err(refusal),

@@ -1,1 +1,3 @@
 pub mod Holdings
+pub mod Grids
+pub mod Books

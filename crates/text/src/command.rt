@@ -84,13 +84,15 @@ fn kind(line: &mut Line) -> Option<Option<Kind>> {
     let [letter] = part else {
         return None;
     };
-    Some(match char::from(*letter) {
-        'e' => Some(Kind::Enable),
-        'd' => Some(Kind::Disable),
-        'a' => Some(Kind::Assign),
-        'r' => Some(Kind::Revoke),
-        _ => None,
-    })
+    Some(
+        match char::from(*letter) {
+            'e' => Some(Kind::Enable),
+            'd' => Some(Kind::Disable),
+            'a' => Some(Kind::Assign),
+            'r' => Some(Kind::Revoke),
+            _ => None,
+        },
+    )
 }
 
 fn act(line: &mut Line) -> Option<Command> {

@@ -14,7 +14,11 @@ pub struct Line<'a> {
 
 impl<'a> Line<'a> {
     pub fn new(bytes: &'a [u8], number: u32) -> Line<'a> {
-        Line { bytes, number, at: 0 }
+        Line {
+            bytes,
+            number,
+            at: 0,
+        }
     }
 
     // The next word, if there is one.

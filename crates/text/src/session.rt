@@ -41,7 +41,10 @@ fn execute_drafting<R: Roster>(mut draft: Draft<R>, command: Command) -> (Sessio
             (Session::Drafting(draft), reply)
         }
         Command::Force => (Session::InForce(draft.force()), Reply::Done),
-        Command::InForce(_) => (Session::Drafting(draft), Reply::Refused(Refusal::WrongStage)),
+        Command::InForce(_) => (
+            Session::Drafting(draft),
+            Reply::Refused(Refusal::WrongStage),
+        ),
     }
 }
 

@@ -19,7 +19,7 @@ returns-in-Err g c =
     record {
       answer = told .answer;
       after =
-        ap (draft-of held) same
-        ∙ stays (draft-refusal call (draft-of held entry)) (length (policy-of (entry .table) .rules)) (c .in-Err .refusal) (drafted-by call (draft-of held entry)) (draft-of held entry) (told .answer);
+          ap (draft-of held) same
+          ∙ stays (draft-refusal call (draft-of held entry)) (length (policy-of (entry .table) .rules)) (c .in-Err .refusal) (drafted-by call (draft-of held entry)) (draft-of held entry) (told .answer);
       kept = same;
     }

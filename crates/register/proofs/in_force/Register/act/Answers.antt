@@ -34,9 +34,9 @@ returns g c =
     record {
       answer = ap (λ (o : Option Refusal). answered o tt) goes-on;
       after =
-        ap (λ (h : Held). record { policy = policy-of table; clock = c .args .self .now .clock; held = h })
-        (ap (of-roles (table .roles)) (c .apply .ensures)
-        ∙ changed-of-roles (table .roles) (held (c .args .self .now .roster)) (adds (rule .kind)) (c .args .target) (rule .role) (c .args .part) row (proper .role) (table .«few_roles»)
-        ∙ goes-held st rule (c .args .officer) (c .args .target) (c .args .part) found is-rule goes-on);
+          ap (λ (h : Held). record { policy = policy-of table; clock = c .args .self .now .clock; held = h })
+          (ap (of-roles (table .roles)) (c .apply .ensures)
+          ∙ changed-of-roles (table .roles) (held (c .args .self .now .roster)) (adds (rule .kind)) (c .args .target) (rule .role) (c .args .part) row (proper .role) (table .«few_roles»)
+          ∙ goes-held st rule (c .args .officer) (c .args .target) (c .args .part) found is-rule goes-on);
       kept = tt;
     }

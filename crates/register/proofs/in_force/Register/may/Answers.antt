@@ -26,7 +26,7 @@ returns g c =
     let own = c .mask .ensures ∙ ap (mask (st .held) person) (c .slot-now-slot .ensures) in
     let enabling = c .mask-2 .ensures ∙ ap (mask (st .held) 0) (c .slot-now-slot .ensures) in
     let told : c .share-bit .result ≡ may-use (state-of (g .R·Roster .held) (c .args .self .now)) (c .args .person) (c .args .permission) =
-      c .share-bit .ensures .answer ∙ ap₂ shares (ap₂ bitAnd own enabling) (c .permission-mask .ensures) in
+    c .share-bit .ensures .answer ∙ ap₂ shares (ap₂ bitAnd own enabling) (c .permission-mask .ensures) in
     let is-person = and-from (leb 1 person) (leb person (st .policy .persons)) (le-leb 1 person (omega arith)) (le-leb person (st .policy .persons) (omega arith)) in
     record {
       answer = ap₂ answered (none-fails (may-tests st person permission) (is-person, (lt-ltb permission 32 (c .if-permission-ge32 .left), tt))) told;

@@ -19,10 +19,10 @@ returns-in-Act g c =
     let found = act-refusal st (c .in-Act .rule) (c .in-Act .officer) (c .in-Act .target) (c .in-Act .part) in
     record {
       answer =
-        c .done-in-Act .ensures ∙ ap (mapped-ok (λ _. Done)) (told .answer) ∙ mapped-answer found (λ _. Done) tt
-        ∙ ap (λ (call : Call). answer-to call st) (sym (c .in-Act .is));
+          c .done-in-Act .ensures ∙ ap (mapped-ok (λ _. Done)) (told .answer) ∙ mapped-answer found (λ _. Done) tt
+          ∙ ap (λ (call : Call). answer-to call st) (sym (c .in-Act .is));
       after = told .after ∙ ap (λ (call : Call). next call st) (sym (c .in-Act .is));
       kept =
-        subst (λ (r : Result Answer Refusal). refused r (λ (refusal : Refusal). c .act .last .self ≡ c .args .self .now)) (sym (c .done-in-Act .ensures))
-        (mapped-refused (c .act .result) (λ _. Done) (λ (refusal : Refusal). c .act .last .self ≡ c .args .self .now) (told .kept));
+          subst (λ (r : Result Answer Refusal). refused r (λ (refusal : Refusal). c .act .last .self ≡ c .args .self .now)) (sym (c .done-in-Act .ensures))
+          (mapped-refused (c .act .result) (λ _. Done) (λ (refusal : Refusal). c .act .last .self ≡ c .args .self .now) (told .kept));
     }

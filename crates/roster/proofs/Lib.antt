@@ -1,0 +1,4 @@
+pub mod Masks
+pub mod Holdings
+mod Tables
+mod Rows
