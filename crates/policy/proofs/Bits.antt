@@ -225,3 +225,8 @@ shares-decides n a b h = (found, told)
     told : Shares a b → shares a b ≡ true
     told shared =
         ap not (ne-eqb (bitAnd a b) 0 (λ e. false≢true (sym (ap (λ (x : ℕ). bit x (shared .0)) e ∙ bit-none (shared .0)) ∙ bit-and a b (shared .0) ∙ and-from (bit a (shared .0)) (bit b (shared .0)) (shared .1) (shared .2))))
+
+-- bit 0 of a shifted word
+pub bit-shifted : (m k : ℕ) → bit (m / 2 ^ k) 0 ≡ bit m k
+unfolding bit
+bit-shifted m k = ap (λ (x : ℕ). eqb (x % 2) 1) (div-one (m / 2 ^ k))

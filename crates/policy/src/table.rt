@@ -7,9 +7,9 @@ use crate::rule::Rule;
 // A policy in fixed tables: sizes, the mask of each permission, and the rules, of which the first `count` are there.
 #[derive(Drop)]
 pub struct PolicyTable {
-    pub(crate) roles: u32,
-    pub(crate) slots: u32,
-    pub(crate) persons: u32,
+    pub roles: u32,
+    pub slots: u32,
+    pub persons: u32,
     pub(crate) permissions: [u16; 32],
     pub(crate) rules: [Rule; 64],
     pub(crate) count: u32,

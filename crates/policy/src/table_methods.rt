@@ -1,10 +1,10 @@
 ghost use mathlib.Core.Path.{_≡_};
-ghost use mathlib.Core.Bool.{Bool, true, false, cond};
-ghost use Prim.Native.Nat.{ℕ, _≤_};
-ghost use lib.ListN.{length, getD};
+ghost use Prim.Native.Nat.{_^_, _≤_, _<_};
+ghost use Rattle.std.specs.declared.option.Option.the-variants.{Some, None};
+ghost use lib.ListN.{length};
 ghost use Rattle.std.specs.Finite.{nth};
 ghost use Rattle.std.specs.Results.{Cases};
-ghost use Rattle.policy.specs.Policies.{blank, permission-mask, with-permission, with-proposed, schedule-fits, mask-fits, size-tests, permission-tests, rule-tests, proposed-roles-fit, proposal-tests, proposed-roles-fit, proposed-schedules-fit};
+ghost use Rattle.policy.specs.Policies.{blank, as-proposed, permission-mask, with-rule, with-permission, with-proposed, schedule-fits, mask-fits, size-tests, permission-tests, rule-tests, proposed-roles-fit, proposal-tests, proposed-roles-fit, proposed-schedules-fit};
 ghost use Rattle.policy.specs.Refusals.{first-failing, answered, mapped-ok};
 ghost use Rattle.policy.specs.Tables.{policy-of};
 use crate::kind::Kind;
@@ -73,27 +73,6 @@ impl PolicyTable {
         }
     }
 
-    // The number of roles.
-    pub fn roles(&self) -> u32
-        ensures { λ r. ⌜ r ≡ policy-of (now (self .entry)) .roles ⌝ }
-    {
-        self.roles
-    }
-
-    // The number of slots of the clock.
-    pub fn slots(&self) -> u32
-        ensures { λ r. ⌜ r ≡ policy-of (now (self .entry)) .slots ⌝ }
-    {
-        self.slots
-    }
-
-    // The number of persons.
-    pub fn persons(&self) -> u32
-        ensures { λ r. ⌜ r ≡ policy-of (now (self .entry)) .persons ⌝ }
-    {
-        self.persons
-    }
-
     // Whether the schedule is not empty and lies inside the slots.
     pub fn schedule_fits(&self, schedule: u32) -> bool
         ensures { λ r. ⌜ r ≡ schedule-fits (now (self .entry) .slots) schedule ⌝ }
@@ -109,13 +88,13 @@ impl PolicyTable {
     }
 
     // The mask of a permission; a permission from 32 on has no role.
-    pub fn permission_mask(&self, permission: u32) -> u16
-        ensures { λ r. ⌜ r ≡ permission-mask (policy-of (now (self .entry))) permission ⌝ }
+    pub fn permission_mask(&self, number: u32) -> u16
+        ensures { λ r. ⌜ r ≡ permission-mask (policy-of (now (self .entry))) number ⌝ }
     {
-        if permission >= 32 {
+        if number >= 32 {
             return 0;
         }
-        self.permissions[permission as usize]
+        self.permissions[number as usize]
     }
 
     // The rule with that number.
@@ -125,7 +104,14 @@ impl PolicyTable {
         if number >= self.count {
             return None;
         }
-        Some(self.rules[number as usize])
+        Some(self.rule_at(number))
+    }
+
+    fn rule_at(&self, number: u32) -> Rule
+        requires { ⌜ number < now self .count ⌝ }
+        ensures { λ r. ⌜ Some r ≡ nth (policy-of (now (self .entry)) .rules) number ⌝ }
+    {
+        self.rules[number as usize]
     }
 
     // Sets the mask of a permission.
@@ -139,8 +125,16 @@ impl PolicyTable {
         if !self.mask_fits(mask) {
             return Err(Refusal::RoleOutOfRange);
         }
-        self.permissions[permission as usize] = mask as u16;
+        self.store_permission(permission, mask);
         Ok(())
+    }
+
+    fn store_permission(&mut self, permission: u32, mask: u32)
+        requires there { ⌜ permission < 32 ⌝ }
+        requires small { ⌜ mask < 2 ^ (now self .roles) ⌝ }
+        ensures { λ _. ⌜ policy-of (now (self .exit)) ≡ with-permission permission mask (policy-of (now (self .entry))) ⌝ }
+    {
+        self.permissions[permission as usize] = mask as u16;
     }
 
     // Whether all roles that the proposal names lie inside the roles.
@@ -193,6 +187,15 @@ impl PolicyTable {
         if let Some(refusal) = self.objection(proposed) {
             return Err(refusal);
         }
+        Ok(self.push(kind, proposed))
+    }
+
+    // Appends a proposal to which there is no objection, and answers its number.
+    fn push(&mut self, kind: Kind, proposed: ProposedRule) -> u32
+        requires { ⌜ None ≡ first-failing (proposal-tests (policy-of (now self)) proposed) ⌝ }
+        ensures number { λ r. ⌜ r ≡ length (policy-of (now (self .entry)) .rules) ⌝ }
+        ensures after { λ _. ⌜ policy-of (now (self .exit)) ≡ with-rule (as-proposed kind proposed) (policy-of (now (self .entry))) ⌝ }
+    {
         let number = self.count;
         self.rules[number as usize] = Rule {
             kind,
@@ -205,6 +208,6 @@ impl PolicyTable {
             grade: proposed.grade,
         };
         self.count = number + 1;
-        Ok(number)
+        number
     }
 }

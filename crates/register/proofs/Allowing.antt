@@ -1,17 +1,22 @@
 -- An act passes its tests exactly when it is allowed. Assumes nothing.
-use mathlib.Core.Path.{_≡_, refl, sym, ap, _∙_}
+use mathlib.Core.Path.{_≡_, refl, sym, ap, subst, _∙_}
 use mathlib.Core.Logic.{⊎-elim}
 use mathlib.Core.Bool.{Bool, true, false, not, _&&_, _||_}
 use Prim.Native.Nat.{ℕ, _^_, _≤_, _<_}
 use native.Mathlib.Omega.{arith}
 use lib.Dec.{leb, ltb}
 use Rattle.std.specs.Finite.{nth}
+use Rattle.std.specs.Orderings.{Decides}
+use Rattle.std.specs.Results.{isOk}
+use Rattle.std.specs.declared.result.Result.{Result}
 use Rattle.std.specs.declared.option.Option.{Option}
 use Rattle.std.specs.declared.option.Option.the-variants.{Some, None}
 use Rattle.std.proofs.shelf.Tests.{and-parts, and-from, leb-true, le-leb, ltb-true, lt-ltb, cases-lt, true≢false}
 use Rattle.policy.specs.Kinds.{changes}
 use Rattle.policy.specs.Masks.{bit, inside, apart}
 use Rattle.policy.specs.Rules.{meets}
+use Rattle.policy.specs.Refusals.{answered}
+use Rattle.policy.specs.declared.refusal.Refusal.{Refusal}
 use Rattle.policy.specs.declared.rule.Rule.{Rule}
 use Rattle.policy.proofs.Bits.{bit-past, inside-decides, apart-decides, below-from-bits}
 use Rattle.policy.proofs.Passing.{Passing, passing, none-fails}
@@ -132,3 +137,13 @@ module _ (st : State) (fine : Well-formed st) (number officer target part : ℕ)
   goes-if a =
       none-fails (act-tests st (a .rule) officer target part) (passed-from a)
       ∙ ap (λ (found : Option Rule). refusal-by found st officer target part) (sym (a .is-rule))
+
+  by-answer : (found : Option Refusal) → act-refusal st number officer target part ≡ found → Decides (isOk (answered found (tt {0}))) (Allowed st number officer target part)
+  by-answer None e = (λ h. allowed-if (sym e), λ a. refl)
+  by-answer (Some refusal) e = (λ h. absurd (true≢false (sym h)), λ a. absurd (true≢false (cc (goes-if a))))
+
+  -- an answer that follows the tests tells whether the act is allowed
+  pub told-allowed : (r : Result (Unit {0}) Refusal) → r ≡ answered (act-refusal st number officer target part) (tt {0}) → Decides (isOk r) (Allowed st number officer target part)
+  told-allowed r e =
+      subst (λ (x : Result (Unit {0}) Refusal). Decides (isOk x) (Allowed st number officer target part)) (sym e)
+      (by-answer (act-refusal st number officer target part) refl)

@@ -40,6 +40,15 @@ pub record Allowed (st : State) (number officer target part : ℕ) : Type 0 wher
   pub holds-need : (slot role : ℕ) → bit part slot ≡ true → bit (rule .need) role ≡ true → st .held target slot role ≡ true
   pub lacks-bar : (slot role : ℕ) → bit part slot ≡ true → bit (rule .bar) role ≡ true → st .held target slot role ≡ false
 
+-- an act by that rule changed this and nothing else: in the target row, in every slot of the part, the rule's role is now held or not held, by the rule's kind
+pub record Changed-by (rule : Rule) (target part : ℕ) (before after : State) : Type 0 where
+  pub same-policy : after .policy ≡ before .policy
+  pub same-clock : after .clock ≡ before .clock
+  pub there : (slot : ℕ) → bit part slot ≡ true → after .held target slot (rule .role) ≡ adds (rule .kind)
+  pub other-rows : (row slot role : ℕ) → (row ≡ target → ⊥) → after .held row slot role ≡ before .held row slot role
+  pub other-slots : (row slot role : ℕ) → bit part slot ≡ false → after .held row slot role ≡ before .held row slot role
+  pub other-roles : (row slot role : ℕ) → (role ≡ rule .role → ⊥) → after .held row slot role ≡ before .held row slot role
+
 -- the test holds of every number below n
 abbrev pub every : ℕ → (ℕ → Bool) → Bool
 every zero test = true

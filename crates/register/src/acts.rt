@@ -1,16 +1,15 @@
 ghost use mathlib.Core.Path.{_≡_};
-ghost use mathlib.Core.Bool.{Bool, true, false, cond};
-ghost use Prim.Native.Nat.{ℕ, _+_, _%_, _<_};
-ghost use lib.Dec.{ltb};
 ghost use Rattle.policy.specs.Kinds.{adds};
-ghost use Rattle.policy.specs.Masks.{bit};
+ghost use Rattle.policy.specs.Policies.{Is-rule};
 ghost use Rattle.policy.specs.Tables.{policy-of};
 ghost use Rattle.policy.specs.Refusals.{answered, first-failing};
-ghost use Rattle.policy.specs.declared.refusal.Refusal.the-variants.{ClockAtEnd};
 ghost use Rattle.roster.specs.Holdings.{changed, mask};
-ghost use Rattle.register.specs.Acts.{act-refusal, act-tests, acted, meets-at, meets-in, rows-fit};
+ghost use Rattle.register.specs.Acts.{Allowed, Changed-by, act-refusal, act-tests, acted, meets-at, meets-in, rows-fit};
 ghost use Rattle.register.specs.States.{state-of, slot-now, tick-refusal, ticked};
-ghost use Rattle.std.specs.Vec.{refused};
+ghost use Rattle.std.specs.Finite.{nth};
+ghost use Rattle.std.specs.Orderings.{Decides};
+ghost use Rattle.std.specs.Results.{isOk};
+ghost use Rattle.std.specs.Vec.{made, refused};
 ghost use Rattle.std.specs.declared.option.Option.the-variants.{Some, None};
 use crate::in_force::Register;
 use policy::limits::ENABLED_ROW;
@@ -27,14 +26,14 @@ impl<R: Roster> Register<R> {
     pub(crate) fn slot_now(&self) -> u32
         ensures { λ r. ⌜ r ≡ slot-now (state-of held (now (self .entry))) ⌝ }
     {
-        self.clock % self.table.slots()
+        self.clock % self.table.slots
     }
 
     // The mask of the roles that the row holds in the slot, of those that there are.
     pub(crate) fn mask(&self, row: u32, slot: u32) -> u16
         ensures { λ r. ⌜ r ≡ mask (state-of held (now (self .entry)) .held) row slot ⌝ }
     {
-        self.roster.mask(row, slot) & all_below(self.table.roles())
+        self.roster.mask(row, slot) & all_below(self.table.roles)
     }
 
     // Whether the row holds the role in the slot.
@@ -55,7 +54,7 @@ impl<R: Roster> Register<R> {
     fn meets_in(&self, rule: Rule, target: u32, part: u32) -> bool
         ensures { λ r. ⌜ r ≡ meets-in (state-of held (now (self .entry)) .held) rule target part (now (self .entry) .table .slots) ⌝ }
     {
-        for slot in 0..self.table.slots() {
+        for slot in 0..self.table.slots {
             if !self.meets_at(rule, target, part, slot) {
                 return false;
             }
@@ -67,7 +66,7 @@ impl<R: Roster> Register<R> {
     fn rows_fit(&self, rule: Rule, officer: u32, target: u32) -> bool
         ensures { λ r. ⌜ r ≡ rows-fit (policy-of (now (self .entry) .table)) rule officer target ⌝ }
     {
-        let persons = self.table.persons();
+        let persons = self.table.persons;
         officer >= 1 && officer <= persons && target <= persons && rule.kind.changes(target)
     }
 
@@ -118,13 +117,42 @@ impl<R: Roster> Register<R> {
         ensures answer { λ r. ⌜ r ≡ answered (act-refusal (state-of held (now (self .entry))) rule officer target part) tt ⌝ }
         ensures after { λ r. ⌜ state-of held (now (self .exit)) ≡ acted (state-of held (now (self .entry))) rule officer target part ⌝ }
         ensures kept { λ r. ⌜ refused r (λ _. now (self .exit) ≡ now (self .entry)) ⌝ }
+        ensures allowed { λ r. ⌜ Decides (isOk r) (Allowed (state-of held (now (self .entry))) rule officer target part) ⌝ }
+        ensures changes { λ r. ⌜ made r (λ _. (found : Rule) → Is-rule (policy-of (now (self .entry) .table)) rule found → Changed-by found target part (state-of held (now (self .entry))) (state-of held (now (self .exit)))) ⌝ }
     {
-        let Some(rule) = self.table.rule(rule) else {
+        self.attempt(rule, officer, target, part)
+    }
+
+    // Tests the act, and carries it out if no test fails.
+    fn attempt(&mut self, number: u32, officer: u32, target: u32, part: u32) -> Result<(), Refusal>
+        ensures answer { λ r. ⌜ r ≡ answered (act-refusal (state-of held (now (self .entry))) number officer target part) tt ⌝ }
+        ensures after { λ r. ⌜ state-of held (now (self .exit)) ≡ acted (state-of held (now (self .entry))) number officer target part ⌝ }
+        ensures kept { λ r. ⌜ refused r (λ _. now (self .exit) ≡ now (self .entry)) ⌝ }
+    {
+        let Some(rule) = self.table.rule(number) else {
             return Err(Refusal::NoSuchRule);
         };
         if let Some(refusal) = self.objection(rule, officer, target, part) {
             return Err(refusal);
         }
+        self.carry_out(number, rule, officer, target, part)
+    }
+
+    // Carries out an act of which no test fails.
+    fn carry_out(
+        &mut self,
+        number: u32,
+        rule: Rule,
+        officer: u32,
+        target: u32,
+        part: u32,
+    ) -> Result<(), Refusal>
+        requires is_rule { ⌜ Some rule ≡ nth (policy-of (now self .table) .rules) number ⌝ }
+        requires passes { ⌜ None ≡ first-failing (act-tests (state-of held (now self)) rule officer target part) ⌝ }
+        ensures answer { λ r. ⌜ r ≡ answered (act-refusal (state-of held (now (self .entry))) number officer target part) tt ⌝ }
+        ensures after { λ r. ⌜ state-of held (now (self .exit)) ≡ acted (state-of held (now (self .entry))) number officer target part ⌝ }
+        ensures kept { λ r. ⌜ refused r (λ _. now (self .exit) ≡ now (self .entry)) ⌝ }
+    {
         apply(&mut self.roster, rule, target, part);
         Ok(())
     }

@@ -59,10 +59,10 @@ impl<R: Roster> Draft<R> {
         ensures after { λ r. ⌜ draft-of held (now (self .exit)) ≡ next-draft (Put row role schedule) (draft-of held (now (self .entry))) ⌝ }
         ensures kept { λ r. ⌜ refused r (λ _. now (self .exit) ≡ now (self .entry)) ⌝ }
     {
-        if row > self.table.persons() {
+        if row > self.table.persons {
             return Err(Refusal::BadRow);
         }
-        if role >= self.table.roles() {
+        if role >= self.table.roles {
             return Err(Refusal::RoleOutOfRange);
         }
         if !self.table.schedule_fits(schedule) {

@@ -16,14 +16,21 @@ impl<R: Roster> Register<R> {
         ensures answer { λ r. ⌜ r ≡ answered (may-refusal (state-of held (now (self .entry))) person permission) (may-use (state-of held (now (self .entry))) person permission) ⌝ }
         ensures uses { λ r. ⌜ made r (λ b. Decides b (Uses (state-of held (now (self .entry))) person permission)) ⌝ }
     {
-        if person == 0 || person > self.table.persons() {
+        if person == 0 || person > self.table.persons {
             return Err(Refusal::BadRow);
         }
         if permission >= 32 {
             return Err(Refusal::NoSuchPermission);
         }
+        Ok(self.may_use(person, permission))
+    }
+
+    fn may_use(&self, person: u32, permission: u32) -> bool
+        ensures test { λ r. ⌜ r ≡ may-use (state-of held (now (self .entry))) person permission ⌝ }
+        ensures uses { λ r. ⌜ Decides r (Uses (state-of held (now (self .entry))) person permission) ⌝ }
+    {
         let slot = self.slot_now();
         let usable = self.mask(person, slot) & self.mask(ENABLED_ROW, slot);
-        Ok(share_bit(usable as u32, self.table.permission_mask(permission) as u32))
+        share_bit(usable as u32, self.table.permission_mask(permission) as u32)
     }
 }

@@ -5,7 +5,7 @@ use lib.ListN.{length}
 use Rattle.std.proofs.shelf.Lists.{getD-past}
 use Rattle.policy.proofs.table.PolicyTable.permission_mask.Needs as need
 
-pub returns-then-permission-ge32 : need.returns-then-permission-ge32
-returns-then-permission-ge32 c =
+pub returns-then-number-ge32 : need.returns-then-number-ge32
+returns-then-number-ge32 c =
     let whole : length (c .args .self .now .permissions) ≡ 32 = search needs in
-    sym (getD-past (c .args .self .now .permissions) (c .args .permission) 0 (omega arith))
+    sym (getD-past (c .args .self .now .permissions) (c .args .number) 0 (omega arith))

@@ -1,15 +1,7 @@
-use mathlib.Core.Path.{_≡_, sym}
-use native.Mathlib.Omega.{arith}
-use borrow.Author.Needs.{needs}
-use lib.ListN.{length}
-use Rattle.policy.proofs.Policies.{nth-taken, nth-not-taken}
+use mathlib.Core.Path.{sym}
+use Rattle.policy.proofs.Policies.{nth-not-taken}
 use Rattle.policy.proofs.table.PolicyTable.rule.Needs as need
 
 pub returns-then-number-self : need.returns-then-number-self
 returns-then-number-self c =
     sym (nth-not-taken (c .args .self .now .rules) (c .args .self .now .count) (c .args .number) (c .if-number-self .taken))
-
-pub returns : need.returns
-returns c =
-    let whole : length (c .args .self .now .rules) ≡ 64 = search needs in
-    sym (nth-taken (c .args .self .now .rules) (c .args .self .now .count) (c .args .number) _ (omega arith) (c .if-number-self .left))

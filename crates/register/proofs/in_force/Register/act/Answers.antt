@@ -1,42 +1,20 @@
-use mathlib.Core.Path.{_≡_, sym, ap, _∙_}
+use Rattle.register.specs.States.{state-of}
 use Prim.Native.Nat.{_^_, _<_}
-use native.Mathlib.Omega.{arith}
 use borrow.Author.Needs.{needs}
-use Rattle.std.specs.declared.option.Option.{Option}
-use Rattle.std.specs.Finite.{nth}
-use Rattle.policy.specs.Kinds.{adds}
-use Rattle.policy.specs.Refusals.{answered}
-use Rattle.policy.specs.Tables.{policy-of}
-use Rattle.policy.specs.declared.refusal.Refusal.{Refusal}
-use Rattle.policy.proofs.Policies.{kept-by}
-use Rattle.roster.specs.Holdings.{Held}
-use Rattle.register.specs.States.{State, state-of, of-roles}
-use Rattle.register.proofs.Acting.{goes, goes-held}
-use Rattle.register.proofs.Allowing.{allowed-if}
+use Rattle.register.proofs.Allowing.{told-allowed}
+use Rattle.register.proofs.Changing.{told-changed}
 use Rattle.register.proofs.WellFormed.{formed}
-use Rattle.register.proofs.OfRoles.{changed-of-roles}
 use Rattle.register.proofs.in_force.Register.act.Needs as need
 
 pub returns : need.returns
 returns g c =
-    let held = g .R·Roster .held in
-    let st = state-of held (c .args .self .now) in
-    let table = c .args .self .now .table in
-    let rule = c .in-Some .rule in
-    let found = nth (policy-of table .rules) (c .args .rule) in
-    let is-rule = c .in-Some .ensures tt in
-    let none = c .in-rest-objection .ensures tt in
-    let goes-on = goes st rule (c .args .officer) (c .args .target) (c .args .part) found is-rule none in
+    let st = state-of (g .R·Roster .held) (c .args .self .now) in
     let word : c .args .part < 2 ^ 32 = search needs in
-    let allowed = allowed-if st (formed held (c .args .self .now)) (c .args .rule) (c .args .officer) (c .args .target) (c .args .part) word goes-on in
-    let row : c .args .target < 16 = omega (arith, allowed .on-row, table .«few_persons») in
-    let proper = kept-by (table .roles) (table .slots) rule (table .proper (c .args .rule) rule (sym is-rule)) in
+    let told = c .attempt .ensures in
     record {
-      answer = ap (λ (o : Option Refusal). answered o tt) goes-on;
-      after =
-          ap (λ (h : Held). record { policy = policy-of table; clock = c .args .self .now .clock; held = h })
-          (ap (of-roles (table .roles)) (c .apply .ensures)
-          ∙ changed-of-roles (table .roles) (held (c .args .self .now .roster)) (adds (rule .kind)) (c .args .target) (rule .role) (c .args .part) row (proper .role) (table .«few_roles»)
-          ∙ goes-held st rule (c .args .officer) (c .args .target) (c .args .part) found is-rule goes-on);
-      kept = tt;
+      answer = told .answer;
+      after = told .after;
+      kept = told .kept;
+      allowed = told-allowed st (formed (g .R·Roster .held) (c .args .self .now)) (c .args .rule) (c .args .officer) (c .args .target) (c .args .part) word (c .attempt .result) (told .answer);
+      changes = told-changed st (state-of (g .R·Roster .held) (c .attempt .last .self)) (c .args .rule) (c .args .officer) (c .args .target) (c .args .part) (c .attempt .result) (told .answer) (told .after);
     }

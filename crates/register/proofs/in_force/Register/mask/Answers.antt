@@ -7,6 +7,6 @@ use Rattle.register.proofs.in_force.Register.mask.Needs as need
 
 pub returns : need.returns
 returns g c =
-    let few : min (c .roles .result) 16 ≡ c .args .self .now .table .roles = omega (arith, c .roles .ensures, c .args .self .now .table .«few_roles») in
+    let few : min (c .args .self .now .table .roles) 16 ≡ c .args .self .now .table .roles = omega (arith, c .args .self .now .table .«few_roles») in
     ap₂ bitAnd (c .mask .ensures) (c .all-below .ensures ∙ ap (λ (n : ℕ). 2 ^ n - 1) few)
     ∙ mask-of-roles (c .args .self .now .table .roles) (g .R·Roster .held (c .args .self .now .roster)) (c .args .row) (c .args .slot)

@@ -14,5 +14,5 @@ loop-slot-again g c =
 pub returns-then-not-meets-at : need.returns-then-not-meets-at
 returns-then-not-meets-at g c =
     every-fails (c .args .self .now .table .slots) (meets-at (state-of (g .R·Roster .held) (c .args .self .now) .held) (c .args .rule) (c .args .target) (c .args .part))
-    (c .loop-slot .slot) (omega (arith, c .loop-slot-test .taken, c .slots-slot-end .ensures))
+    (c .loop-slot .slot) (c .loop-slot-test .taken)
     (sym (c .meets-at .ensures) ∙ c .if-not-meets-at .taken)

@@ -1,12 +1,9 @@
-use Prim.Native.Nat.{_<_, _^_}
-use borrow.Author.Needs.{needs}
 use Rattle.policy.proofs.Policies.{set-masks}
-use Rattle.policy.proofs.table.PolicyTable.set_permission.Needs as need
+use Rattle.policy.proofs.table.PolicyTable.store_permission.Needs as need
 
 pub ghost-self : need.ghost-self
 ghost-self c =
-    let t = c .args .self .now in
-    let small : c .args .mask < 2 ^ c .args .self .now .roles = search needs in (
+    let t = c .args .self .now in (
       t .«some_role»,
       (
         t .«few_roles»,
@@ -22,7 +19,7 @@ ghost-self c =
                   t .«few_rules»,
                   (
                     t .counted,
-                    (set-masks (t .roles) (t .permissions) (c .args .permission) (c .args .mask) (t .«masks_fit») small, (t .proper, tt)),
+                    (set-masks (t .roles) (t .permissions) (c .args .permission) (c .args .mask) (t .«masks_fit») (c .pre .small), (t .proper, tt)),
                   ),
                 ),
               ),
