@@ -112,6 +112,9 @@ fn main(rt: LibcRuntime) -> Result<(), AnyError> {
     let lines = tally.lines;
     let plans = tally.plans;
     let wrong = tally.wrong;
-    println!(rt, "{lines} lines in {plans} plans as they must be, {wrong} plans not")?;
+    println!(
+        rt,
+        "{lines} lines in {plans} plans as they must be, {wrong} plans not"
+    )?;
     Ok(())
 }

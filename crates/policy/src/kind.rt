@@ -3,7 +3,7 @@ ghost use Rattle.policy.specs.Kinds.{adds, changes};
 use crate::limits::ENABLED_ROW;
 
 // What a rule does with its role: enable or disable it for everybody, assign it to or revoke it from a person.
-#[derive(Clone, Copy, PartialEq, Eq, Debug)]
+#[derive(Clone, Copy)]
 pub enum Kind {
     Enable,
     Disable,

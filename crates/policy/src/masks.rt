@@ -21,7 +21,7 @@ pub fn is_inside(part: u32, whole: u32) -> bool
 }
 
 // Whether the two words have no bit in common.
-pub fn are_apart(a: u32, b: u32) -> bool
+pub(crate) fn are_apart(a: u32, b: u32) -> bool
     ensures { λ r. ⌜ r ≡ apart a b ⌝ }
 {
     a & b == 0
@@ -35,7 +35,7 @@ pub fn share_bit(a: u32, b: u32) -> bool
 }
 
 // Whether all bits of the word lie below that index.
-pub fn fits(word: u32, bits: u32) -> bool
+pub(crate) fn fits(word: u32, bits: u32) -> bool
     ensures { λ r. ⌜ r ≡ ltb word (2 ^ bits) ⌝ }
 {
     shifted_down(word, bits) == 0

@@ -2,7 +2,7 @@ ghost use mathlib.Core.Path.{_≡_};
 ghost use Rattle.policy.specs.Refusals.{report};
 
 // Why a call was turned away. Each case has its number; those of a certificate's line have the line, and the rule.
-#[derive(Clone, Copy, PartialEq, Eq, Debug)]
+#[derive(Clone, Copy)]
 pub enum Refusal {
     SizeOutOfRange,
     SizeTooLate,

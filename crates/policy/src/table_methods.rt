@@ -81,7 +81,7 @@ impl PolicyTable {
     }
 
     // Whether the mask lies inside the roles.
-    pub fn mask_fits(&self, mask: u32) -> bool
+    fn mask_fits(&self, mask: u32) -> bool
         ensures { λ r. ⌜ r ≡ mask-fits (now (self .entry) .roles) mask ⌝ }
     {
         fits(mask, self.roles)

@@ -41,38 +41,48 @@ fn named(name: &[u8], line: &mut Line) -> Option<Command> {
 }
 
 fn size(line: &mut Line) -> Option<Command> {
+    let [roles, slots, persons] = line.numbers::<3>()?;
     Some(Command::Draft(DraftCall::Size {
-        roles: line.number()?,
-        slots: line.number()?,
-        persons: line.number()?,
+        roles,
+        slots,
+        persons,
     }))
 }
 
 fn put(line: &mut Line) -> Option<Command> {
+    let [row, role, schedule] = line.numbers::<3>()?;
     Some(Command::Draft(DraftCall::Put {
-        row: line.number()?,
-        role: line.number()?,
-        schedule: line.number()?,
+        row,
+        role,
+        schedule,
     }))
 }
 
 fn perm(line: &mut Line) -> Option<Command> {
-    Some(Command::Draft(DraftCall::Perm {
-        permission: line.number()?,
-        mask: line.number()?,
-    }))
+    let [permission, mask] = line.numbers::<2>()?;
+    Some(Command::Draft(DraftCall::Perm { permission, mask }))
 }
 
 fn rule(line: &mut Line) -> Option<Command> {
+    let kind = kind(line)?;
+    let [
+        officer,
+        rule_schedule,
+        need,
+        bar,
+        role_schedule,
+        role,
+        grade,
+    ] = line.numbers::<7>()?;
     Some(Command::Draft(DraftCall::Rule(ProposedRule {
-        kind: kind(line)?,
-        officer: line.number()?,
-        rule_schedule: line.number()?,
-        need: line.number()?,
-        bar: line.number()?,
-        role_schedule: line.number()?,
-        role: line.number()?,
-        grade: line.number()?,
+        kind,
+        officer,
+        rule_schedule,
+        need,
+        bar,
+        role_schedule,
+        role,
+        grade,
     })))
 }
 
@@ -96,17 +106,16 @@ fn kind(line: &mut Line) -> Option<Option<Kind>> {
 }
 
 fn act(line: &mut Line) -> Option<Command> {
+    let [rule, officer, target, part] = line.numbers::<4>()?;
     Some(Command::InForce(Call::Act {
-        rule: line.number()?,
-        officer: line.number()?,
-        target: line.number()?,
-        part: line.number()?,
+        rule,
+        officer,
+        target,
+        part,
     }))
 }
 
 fn may(line: &mut Line) -> Option<Command> {
-    Some(Command::InForce(Call::May {
-        person: line.number()?,
-        permission: line.number()?,
-    }))
+    let [person, permission] = line.numbers::<2>()?;
+    Some(Command::InForce(Call::May { person, permission }))
 }

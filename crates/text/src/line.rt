@@ -40,6 +40,15 @@ impl<'a> Line<'a> {
         }
     }
 
+    // The next words as numbers.
+    pub fn numbers<const N: usize>(&mut self) -> Option<[u32; N]> {
+        let mut numbers = [0; N];
+        for number in numbers.iter_mut() {
+            *number = self.number()?;
+        }
+        Some(numbers)
+    }
+
     // Whether every word was read.
     pub fn is_over(&self) -> bool {
         self.at > self.bytes.len()

@@ -1,0 +1,5 @@
+pub mod Tolls
+pub mod Readings
+pub mod ActsTolls
+pub mod GradeTolls
+pub mod ClockTolls
