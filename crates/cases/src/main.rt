@@ -1,6 +1,7 @@
 // Runs a table of plans and compares what is printed with what must be. A line of the table is a line of a plan and, after
 // ' | ', its outcome ('ok' where there is none); an empty line begins the next plan, and a line that begins with '#' is a
 // remark.
+use register::draft::Draft;
 use roster::grid::Grid;
 use roster::grid::GridRoster;
 use roster::schedule_book::BookRoster;
@@ -107,6 +108,20 @@ fn run(rt: &LibcRuntime) -> Result<Tally, AnyError> {
     Ok(tally)
 }
 
+// Whether a register takes 1,000,000,000 ticks, and refuses the next with 32.
+fn clock_ends() -> bool {
+    let mut register = Draft::begin(Grid::new()).force();
+    for _ in 0..1_000_000_000u32 {
+        if register.tick().is_err() {
+            return false;
+        }
+    }
+    match register.tick() {
+        Ok(()) => false,
+        Err(refusal) => refusal.number() == 32,
+    }
+}
+
 fn main(rt: LibcRuntime) -> Result<(), AnyError> {
     let tally = rt.report(run(&rt))?;
     let lines = tally.lines;
@@ -116,5 +131,7 @@ fn main(rt: LibcRuntime) -> Result<(), AnyError> {
         rt,
         "{lines} lines in {plans} plans as they must be, {wrong} plans not"
     )?;
+    let ends = clock_ends();
+    println!(rt, "the clock ends where it must: {ends}")?;
     Ok(())
 }

@@ -5,6 +5,8 @@ ghost use Rattle.history.specs.Histories.{draft-answers, answers-to, forced, h
 ghost use Rattle.register.specs.States.{draft-of, state-of};
 ghost use Rattle.std.specs.Of.Vec.{vec-items};
 ghost use Rattle.std.specs.Vec.{made, refused};
+use crate::take::take_call;
+use crate::take::take_draft_call;
 use policy::refusal::Refusal;
 use register::call::Answer;
 use register::call::Call;
@@ -46,7 +48,7 @@ pub fn execute<R: Roster + Drop>(
 }
 
 // Takes draft calls one after the other, some refused, and answers each. Without memory for the answers it takes none.
-pub fn take_draft_calls<R: Roster>(
+fn take_draft_calls<R: Roster>(
     draft: &mut Draft<R>,
     heap: Global,
     calls: &[DraftCall],
@@ -57,13 +59,13 @@ pub fn take_draft_calls<R: Roster>(
 {
     let mut answers = Vec::with_capacity(heap, calls.len())?;
     for call in calls {
-        answers.push_reserved(draft.take(*call));
+        answers.push_reserved(take_draft_call(draft, *call));
     }
     Ok(answers)
 }
 
 // Takes calls in force one after the other, some refused, and answers each. Without memory for the answers it takes none.
-pub fn take_calls<R: Roster>(
+fn take_calls<R: Roster>(
     register: &mut Register<R>,
     heap: Global,
     calls: &[Call],
@@ -74,7 +76,7 @@ pub fn take_calls<R: Roster>(
 {
     let mut answers = Vec::with_capacity(heap, calls.len())?;
     for call in calls {
-        answers.push_reserved(register.take(*call));
+        answers.push_reserved(take_call(register, *call));
     }
     Ok(answers)
 }

@@ -2,5 +2,4 @@ mod acts;
 pub mod call;
 pub mod draft;
 pub mod in_force;
-mod run;
 mod uses;

@@ -1,5 +1,7 @@
 use crate::command::Command;
 use crate::reply::Reply;
+use history::take::take_call;
+use history::take::take_draft_call;
 use policy::refusal::Refusal;
 use register::call::Answer;
 use register::draft::Draft;
@@ -34,7 +36,7 @@ impl<R: Roster> Session<R> {
 fn execute_drafting<R: Roster>(mut draft: Draft<R>, command: Command) -> (Session<R>, Reply) {
     match command {
         Command::Draft(call) => {
-            let reply = match draft.take(call) {
+            let reply = match take_draft_call(&mut draft, call) {
                 Ok(()) => Reply::Done,
                 Err(refusal) => Reply::Refused(refusal),
             };
@@ -50,7 +52,7 @@ fn execute_drafting<R: Roster>(mut draft: Draft<R>, command: Command) -> (Sessio
 
 fn execute_in_force<R: Roster>(mut register: Register<R>, command: Command) -> (Session<R>, Reply) {
     let reply = match command {
-        Command::InForce(call) => match register.take(call) {
+        Command::InForce(call) => match take_call(&mut register, call) {
             Ok(Answer::Done) => Reply::Done,
             Ok(Answer::MayUse(may)) => Reply::May(may),
             Err(refusal) => Reply::Refused(refusal),

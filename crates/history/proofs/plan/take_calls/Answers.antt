@@ -19,12 +19,12 @@ loop-call-again g c =
     let held = g .R·Roster .held in
     let calls = c .args .calls .now in
     let before = state-of held (c .loop-call .register) in
-    let after = state-of held (c .take .last .self) in
+    let after = state-of held (c .take-call .last .register) in
     let inv = c .loop-call .inv in
     let here = c .loop-call-test .taken in (
-      answered-more answer-to next answers-to (λ call rest s. refl) calls (c .loop-call .call-index) (Tick) (vec-items (c .loop-call .answers)) (vec-items (c .push-reserved .last .self)) (c .take .result) before after _ here
-          (c .push-reserved .ensures .items) (c .take .ensures .answer) (c .take .ensures .after) (inv .0),
-      moved-more answer-to next run (λ call rest s. refl) calls (c .loop-call .call-index) (Tick) before after _ here (c .take .ensures .after) (inv .1),
+      answered-more answer-to next answers-to (λ call rest s. refl) calls (c .loop-call .call-index) (Tick) (vec-items (c .loop-call .answers)) (vec-items (c .push-reserved .last .self)) (c .take-call .result) before after _ here
+          (c .push-reserved .ensures .items) (c .take-call .ensures .answer) (c .take-call .ensures .after) (inv .0),
+      moved-more answer-to next run (λ call rest s. refl) calls (c .loop-call .call-index) (Tick) before after _ here (c .take-call .ensures .after) (inv .1),
       omega (arith, inv .2, c .push-reserved .ensures .len),
       omega (arith, inv .3, c .push-reserved .ensures .capacity),
     )

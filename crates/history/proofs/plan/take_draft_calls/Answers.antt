@@ -19,12 +19,12 @@ loop-call-again g c =
     let held = g .R·Roster .held in
     let calls = c .args .calls .now in
     let before = draft-of held (c .loop-call .draft) in
-    let after = draft-of held (c .take .last .self) in
+    let after = draft-of held (c .take-draft-call .last .draft) in
     let inv = c .loop-call .inv in
     let here = c .loop-call-test .taken in (
-      answered-more draft-answer next-draft draft-answers (λ call rest s. refl) calls (c .loop-call .call-index) (Size 0 0 0) (vec-items (c .loop-call .answers)) (vec-items (c .push-reserved .last .self)) (c .take .result) before after _ here
-          (c .push-reserved .ensures .items) (c .take .ensures .answer) (c .take .ensures .after) (inv .0),
-      moved-more draft-answer next-draft drafted (λ call rest s. refl) calls (c .loop-call .call-index) (Size 0 0 0) before after _ here (c .take .ensures .after) (inv .1),
+      answered-more draft-answer next-draft draft-answers (λ call rest s. refl) calls (c .loop-call .call-index) (Size 0 0 0) (vec-items (c .loop-call .answers)) (vec-items (c .push-reserved .last .self)) (c .take-draft-call .result) before after _ here
+          (c .push-reserved .ensures .items) (c .take-draft-call .ensures .answer) (c .take-draft-call .ensures .after) (inv .0),
+      moved-more draft-answer next-draft drafted (λ call rest s. refl) calls (c .loop-call .call-index) (Size 0 0 0) before after _ here (c .take-draft-call .ensures .after) (inv .1),
       omega (arith, inv .2, c .push-reserved .ensures .len),
       omega (arith, inv .3, c .push-reserved .ensures .capacity),
     )

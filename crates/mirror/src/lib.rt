@@ -1,0 +1,3 @@
+pub mod roster_pair;
+#[cfg(test)]
+mod tests;
