@@ -2,7 +2,8 @@
 use mathlib.Core.Path.{_≡_, refl, sym, ap, subst, _∙_}
 use mathlib.Core.Logic.{⊎-elim}
 use mathlib.Core.Bool.{Bool, true, false, not, _&&_, _||_}
-use Prim.Native.Nat.{ℕ, _^_, _≤_, _<_}
+use Prim.Native.Nat.{ℕ, zero, suc, _^_, _≤_, _<_}
+use native.Mathlib.Nat.{pow-suc}
 use native.Mathlib.Omega.{arith}
 use lib.Dec.{leb, ltb}
 use Rattle.std.specs.Finite.{nth}
@@ -35,7 +36,12 @@ part-by : (here there : Bool) → (here ≡ true → there ≡ true) → (not he
 part-by true there h = h refl
 part-by false there h = refl
 
-module _ (st : State) (fine : Well-formed st) (number officer target part : ℕ) (word : part < 2 ^ 32) where
+-- a number has fewer bits than itself
+own-power : (n : ℕ) → n < 2 ^ n
+own-power zero = omega arith
+own-power (suc n) = omega (arith, own-power n, pow-suc 2 n)
+
+module _ (st : State) (fine : Well-formed st) (number officer target part : ℕ) where
   module _ (rule : Rule) (is-rule : nth (st .policy .rules) number ≡ Some rule) where
     abbrev own : Kept-by (st .policy .roles) (st .policy .slots) rule
     own = kept-by (st .policy .roles) (st .policy .slots) rule (fine .rules number rule is-rule)
@@ -83,7 +89,7 @@ module _ (st : State) (fine : Well-formed st) (number officer target part : ℕ)
           on-changed-row = p3 .1;
           some-slot = ltb-true 0 part (fit .0);
           in-slots = slot-below small;
-          in-role-schedule = inside-decides 32 part (rule .«role_schedule») word .0 (passed .1 .1 .0);
+          in-role-schedule = inside-decides part part (rule .«role_schedule») (own-power part) .0 (passed .1 .1 .0);
           in-rule-schedule = passed .1 .1 .1 .0;
           officer-holds = passed .1 .1 .1 .1 .0;
           enabled = passed .1 .1 .1 .1 .1 .0;
@@ -102,9 +108,9 @@ module _ (st : State) (fine : Well-formed st) (number officer target part : ℕ)
         and-from (leb 1 officer) (leb officer persons && (on-row && on-changed)) (le-leb 1 officer (a .by-person .from-one))
             (and-from (leb officer persons) (on-row && on-changed) (le-leb officer persons (a .by-person .to-last)) fit),
         (
-          and-from (ltb 0 part) (ltb part (2 ^ slots)) (lt-ltb 0 part (a .some-slot)) (lt-ltb part (2 ^ slots) (below-from-bits 32 slots part word (a .in-slots))),
+          and-from (ltb 0 part) (ltb part (2 ^ slots)) (lt-ltb 0 part (a .some-slot)) (lt-ltb part (2 ^ slots) (below-from-bits part slots part (own-power part) (a .in-slots))),
           (
-            inside-decides 32 part (rule .«role_schedule») word .1 (a .in-role-schedule),
+            inside-decides part part (rule .«role_schedule») (own-power part) .1 (a .in-role-schedule),
             (
               a .in-rule-schedule,
               (

@@ -1,6 +1,6 @@
 pub mod grid;
-pub mod limits;
-pub mod role_schedules;
-pub mod row;
+mod limits;
+mod role_schedules;
+mod row;
 pub mod schedule_book;
 pub mod traits;

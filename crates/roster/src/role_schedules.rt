@@ -11,13 +11,13 @@ use policy::masks::with_bit;
 
 // What one row holds: a schedule of slots for each role.
 #[derive(Clone, Copy)]
-pub struct RoleSchedules {
+pub(crate) struct RoleSchedules {
     schedules: [u32; ROLES],
 }
 
 impl RoleSchedules {
     // A row that holds nothing: no schedule has a slot.
-    pub fn new() -> RoleSchedules
+    pub(crate) fn new() -> RoleSchedules
         ensures { λ r. ⌜ r .schedules ≡ replicate 16 0 ⌝ }
     {
         RoleSchedules {
@@ -26,7 +26,7 @@ impl RoleSchedules {
     }
 
     // The mask of the roles that the row holds in the slot.
-    pub fn mask(&self, slot: u32) -> u16
+    pub(crate) fn mask(&self, slot: u32) -> u16
         ensures { λ r. ⌜ ((role : ℕ) → role < 16 → bit r role ≡ (ltb slot 32 && bit (getD (now (self .entry) .schedules) role 0) slot)) ⌝ }
     {
         if slot >= MAX_SLOTS {
@@ -40,7 +40,7 @@ impl RoleSchedules {
     }
 
     // From then on the row holds the role in the slots of the schedule, or does not; a role from 16 on changes nothing.
-    pub fn change(&mut self, role: u32, schedule: u32, to: bool)
+    pub(crate) fn change(&mut self, role: u32, schedule: u32, to: bool)
         ensures { λ _. ⌜ ((slot i : ℕ) → i < 16 → bit (getD (now (self .exit) .schedules) i 0) slot ≡ cond (eqb i role && bit schedule slot) to (bit (getD (now (self .entry) .schedules) i 0) slot)) ⌝ }
     {
         let role = role as usize;

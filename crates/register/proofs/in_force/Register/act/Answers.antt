@@ -1,6 +1,4 @@
 use Rattle.register.specs.States.{state-of}
-use Prim.Native.Nat.{_^_, _<_}
-use borrow.Author.Needs.{needs}
 use Rattle.register.proofs.Allowing.{told-allowed}
 use Rattle.register.proofs.Changing.{told-changed}
 use Rattle.register.proofs.WellFormed.{formed}
@@ -9,12 +7,11 @@ use Rattle.register.proofs.in_force.Register.act.Needs as need
 pub returns : need.returns
 returns g c =
     let st = state-of (g .R·Roster .held) (c .args .self .now) in
-    let word : c .args .part < 2 ^ 32 = search needs in
     let told = c .attempt .ensures in
     record {
       answer = told .answer;
       after = told .after;
       kept = told .kept;
-      allowed = told-allowed st (formed (g .R·Roster .held) (c .args .self .now)) (c .args .rule) (c .args .officer) (c .args .target) (c .args .part) word (c .attempt .result) (told .answer);
+      allowed = told-allowed st (formed (g .R·Roster .held) (c .args .self .now)) (c .args .rule) (c .args .officer) (c .args .target) (c .args .part) (c .attempt .result) (told .answer);
       changes = told-changed st (state-of (g .R·Roster .held) (c .attempt .last .self)) (c .args .rule) (c .args .officer) (c .args .target) (c .args .part) (c .attempt .result) (told .answer) (told .after);
     }

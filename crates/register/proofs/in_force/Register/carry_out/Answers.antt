@@ -1,7 +1,6 @@
 use mathlib.Core.Path.{_≡_, sym, ap, _∙_}
-use Prim.Native.Nat.{_^_, _<_}
+use Prim.Native.Nat.{_<_}
 use native.Mathlib.Omega.{arith}
-use borrow.Author.Needs.{needs}
 use Rattle.std.specs.declared.option.Option.{Option}
 use Rattle.std.specs.Finite.{nth}
 use Rattle.policy.specs.Kinds.{adds}
@@ -27,8 +26,7 @@ returns g c =
     let is-rule = c .pre .is-rule in
     let none = c .pre .passes in
     let goes-on = goes st rule (c .args .officer) (c .args .target) (c .args .part) found is-rule none in
-    let word : c .args .part < 2 ^ 32 = search needs in
-    let allowed = allowed-if st (formed held (c .args .self .now)) (c .args .number) (c .args .officer) (c .args .target) (c .args .part) word goes-on in
+    let allowed = allowed-if st (formed held (c .args .self .now)) (c .args .number) (c .args .officer) (c .args .target) (c .args .part) goes-on in
     let row : c .args .target < 16 = omega (arith, allowed .on-row, table .«few_persons») in
     let proper = kept-by (table .roles) (table .slots) rule (table .proper (c .args .number) rule (sym is-rule)) in
     record {
