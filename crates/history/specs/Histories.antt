@@ -3,12 +3,12 @@ use mathlib.Core.List.{List, [], _∷_}
 use Rattle.std.specs.declared.result.Result.{Result}
 use Rattle.policy.specs.Refusals.{answered}
 use Rattle.policy.specs.declared.refusal.Refusal.{Refusal}
-use Rattle.register.specs.Calls.{answer-to, next, run}
-use Rattle.register.specs.Drafts.{DraftState, new-draft, draft-refusal, next-draft, drafted}
-use Rattle.register.specs.States.{State, in-force}
-use Rattle.register.specs.declared.call.Answer.{Answer}
-use Rattle.register.specs.declared.call.Call.{Call}
-use Rattle.register.specs.declared.call.DraftCall.{DraftCall}
+use Rattle.model.specs.Calls.{answer-to, next, run}
+use Rattle.model.specs.Drafts.{DraftState, new-draft, draft-refusal, next-draft, drafted}
+use Rattle.model.specs.States.{State, in-force}
+use Rattle.model.specs.declared.call.Answer.{Answer}
+use Rattle.model.specs.declared.call.Call.{Call}
+use Rattle.model.specs.declared.call.DraftCall.{DraftCall}
 
 -- what a draft answers to a call
 abbrev pub draft-answer : DraftCall → DraftState → Result (Unit {0}) Refusal

@@ -230,3 +230,8 @@ shares-decides n a b h = (found, told)
 pub bit-shifted : (m k : ℕ) → bit (m / 2 ^ k) 0 ≡ bit m k
 unfolding bit
 bit-shifted m k = ap (λ (x : ℕ). eqb (x % 2) 1) (div-one (m / 2 ^ k))
+
+-- a number has fewer bits than itself
+pub own-power : (n : ℕ) → n < 2 ^ n
+own-power zero = omega arith
+own-power (suc n) = omega (arith, own-power n, pow-suc 2 n)

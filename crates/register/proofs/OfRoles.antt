@@ -2,18 +2,16 @@
 use mathlib.Core.Path.{_≡_, refl, sym, ap, fun-ext, _∙_}
 use mathlib.Core.Logic.{⊎-elim}
 use mathlib.Core.Bool.{Bool, true, false, not, cond, _&&_, _||_}
-use Prim.Native.Nat.{ℕ, zero, suc, _+_, _-_, _%_, _^_, _≤_, _<_, min}
-use native.Mathlib.Numerals.{add-one}
+use Prim.Native.Nat.{ℕ, _-_, _^_, _≤_, _<_}
 use native.Mathlib.Omega.{arith}
 use lib.Bits.{bitAnd, and-mask, and-le-l}
 use lib.Dec.{eqb, ltb}
-use Rattle.std.proofs.shelf.Tests.{cases-lt, cases-eq, lt-ltb, le-ltb, and-parts, and-from, cond-true, eqb-true}
+use Rattle.std.proofs.shelf.Tests.{cases-lt, lt-ltb, le-ltb, and-parts, and-from, cond-true, eqb-true}
 use Rattle.policy.specs.Masks.{bit}
 use Rattle.policy.proofs.Bits.{bit-low, bit-past}
 use Rattle.roster.specs.Holdings.{Held, altered, changed, mask}
 use Rattle.roster.proofs.Masks.{mask-below, bit-mask, is-mask}
-use Rattle.register.specs.Acts.{every}
-use Rattle.register.specs.States.{of-roles}
+use Rattle.register.specs.Memory.{of-roles}
 
 and-turned : (x y : Bool) → (x && y) ≡ (y && x)
 and-turned true true = refl
@@ -37,31 +35,6 @@ bit-of-roles roles held row slot role few =
     (λ h. bit-past 16 (mask (of-roles roles held) row slot) role (mask-below (of-roles roles held) row slot) h
     ∙ sym (ap (λ (b : Bool). b && held row slot role) (le-ltb role roles (omega arith))))
     (cases-lt role 16)
-
--- a test that fails below n
-pub every-fails : (n : ℕ) (test : ℕ → Bool) (k : ℕ) → k < n → test k ≡ false → false ≡ every n test
-every-fails zero test k h e = absurd (omega arith)
-every-fails (suc n) test k h e =
-    ⊎-elim (λ same. sym (ap (λ (b : Bool). b && every n test) (sym (ap test same) ∙ e)))
-    (λ ne. every-fails n test k (omega arith) e ∙ sym (right (test n) (every n test) (sym (every-fails n test k (omega arith) e))) ∙ refl) (cases-eq k n)
-  where
-    right : (x y : Bool) → y ≡ false → (x && y) ≡ y
-    right true y h = refl
-    right false y h = sym h
-
-pub every-more : (n : ℕ) (test : ℕ → Bool) → test n ≡ true → every n test ≡ true → every (n + 1) test ≡ true
-every-more n test e h = rw add-one (and-from (test n) (every n test) e h)
-
--- every test below n holds where they all do
-pub every-holds : (n : ℕ) (test : ℕ → Bool) → every n test ≡ true → (k : ℕ) → k < n → test k ≡ true
-every-holds zero test e k h = absurd (omega arith)
-every-holds (suc n) test e k h =
-    let parts = and-parts (test n) (every n test) e in
-    ⊎-elim (λ same. ap test same ∙ parts .0) (λ ne. every-holds n test (parts .1) k (omega arith)) (cases-eq k n)
-
-pub every-from : (n : ℕ) (test : ℕ → Bool) → ((k : ℕ) → k < n → test k ≡ true) → every n test ≡ true
-every-from zero test each = refl
-every-from (suc n) test each = and-from (test n) (every n test) (each n (omega arith)) (every-from n test (λ k h. each k (omega arith)))
 
 -- a change of a roster, seen through the roles that there are
 within-cond : (test low to other : Bool) → (test ≡ true → low ≡ true) → (low && cond test to other) ≡ cond test to (low && other)

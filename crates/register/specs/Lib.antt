@@ -1,5 +1,1 @@
-pub mod Drafts
-pub mod States
-pub mod Acts
-pub mod Uses
-pub mod Calls
+pub mod Memory

@@ -1,7 +1,7 @@
 ghost use mathlib.Core.Path.{_≡_};
 ghost use Rattle.policy.specs.Refusals.{answered};
-ghost use Rattle.register.specs.States.{state-of};
-ghost use Rattle.register.specs.Uses.{Uses, may-use, may-refusal};
+ghost use Rattle.register.specs.Memory.{state-of};
+ghost use Rattle.model.specs.Uses.{Uses, may-use, may-refusal};
 ghost use Rattle.std.specs.Orderings.{Decides};
 ghost use Rattle.std.specs.Vec.{made};
 use crate::in_force::Register;

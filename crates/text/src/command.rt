@@ -1,9 +1,9 @@
 use crate::line::Line;
 use crate::word::Word;
+use model::call::Call;
+use model::call::DraftCall;
 use policy::kind::Kind;
 use policy::rule::ProposedRule;
-use register::call::Call;
-use register::call::DraftCall;
 
 // What a readable line asks for.
 #[derive(Clone, Copy)]

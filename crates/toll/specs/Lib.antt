@@ -3,3 +3,4 @@ pub mod Readings
 pub mod ActsTolls
 pub mod GradeTolls
 pub mod ClockTolls
+pub mod Walks

@@ -2,9 +2,9 @@ use mathlib.Core.Path.{_≡_, refl, ap, _∙_}
 use native.Mathlib.Omega.{arith}
 use Rattle.std.specs.Of.Vec.{vec-items}
 use mathlib.Core.List.{_++_}
-use Rattle.register.specs.Calls.{answer-to, next, run}
-use Rattle.register.specs.States.{state-of}
-use Rattle.register.specs.declared.call.Call.the-variants.{Tick}
+use Rattle.model.specs.Calls.{answer-to, next, run}
+use Rattle.register.specs.Memory.{state-of}
+use Rattle.model.specs.declared.call.Call.the-variants.{Tick}
 use Rattle.history.specs.Histories.{answers-to}
 use Rattle.history.proofs.Along.{answered-more, answered-all, moved-more, moved-all}
 use Rattle.history.proofs.plan.take_calls.Needs as need

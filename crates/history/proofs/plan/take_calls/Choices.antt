@@ -3,8 +3,8 @@ use mathlib.Core.List.{_++_}
 use Prim.Native.Nat.{_≤_}
 use lib.ListN.{length, drop}
 use Rattle.std.specs.Of.Vec.{vec-items, vec-len, vec-cap}
-use Rattle.register.specs.Calls.{run}
-use Rattle.register.specs.States.{state-of}
+use Rattle.model.specs.Calls.{run}
+use Rattle.register.specs.Memory.{state-of}
 use Rattle.history.specs.Histories.{answers-to}
 use Rattle.history.proofs.plan.take_calls.Given as given
 

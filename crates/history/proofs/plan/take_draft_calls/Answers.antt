@@ -2,9 +2,9 @@ use mathlib.Core.Path.{_≡_, refl, ap, _∙_}
 use native.Mathlib.Omega.{arith}
 use Rattle.std.specs.Of.Vec.{vec-items}
 use mathlib.Core.List.{_++_}
-use Rattle.register.specs.Drafts.{next-draft, drafted}
-use Rattle.register.specs.States.{draft-of}
-use Rattle.register.specs.declared.call.DraftCall.the-variants.{Size}
+use Rattle.model.specs.Drafts.{next-draft, drafted}
+use Rattle.register.specs.Memory.{draft-of}
+use Rattle.model.specs.declared.call.DraftCall.the-variants.{Size}
 use Rattle.history.specs.Histories.{draft-answer, draft-answers}
 use Rattle.history.proofs.Along.{answered-more, answered-all, moved-more, moved-all}
 use Rattle.history.proofs.plan.take_draft_calls.Needs as need

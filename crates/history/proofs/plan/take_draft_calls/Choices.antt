@@ -3,8 +3,8 @@ use mathlib.Core.List.{_++_}
 use Prim.Native.Nat.{_≤_}
 use lib.ListN.{length, drop}
 use Rattle.std.specs.Of.Vec.{vec-items, vec-len, vec-cap}
-use Rattle.register.specs.Drafts.{drafted}
-use Rattle.register.specs.States.{draft-of}
+use Rattle.model.specs.Drafts.{drafted}
+use Rattle.register.specs.Memory.{draft-of}
 use Rattle.history.specs.Histories.{draft-answers}
 use Rattle.history.proofs.plan.take_draft_calls.Given as given
 

@@ -3,13 +3,13 @@ use Rattle.std.specs.Vec.{refused}
 use Rattle.std.specs.declared.result.Result.{Result}
 use Rattle.policy.specs.Refusals.{mapped-ok}
 use Rattle.policy.specs.declared.refusal.Refusal.{Refusal}
-use Rattle.register.specs.Acts.{act-refusal}
-use Rattle.register.specs.Calls.{answer-to, next}
-use Rattle.register.specs.States.{state-of}
-use Rattle.register.specs.declared.call.Answer.{Answer}
-use Rattle.register.specs.declared.call.Answer.the-variants.{Done}
-use Rattle.register.specs.declared.call.Call.{Call}
-use Rattle.register.proofs.Refused.{mapped-answer, mapped-refused}
+use Rattle.model.specs.Acts.{act-refusal}
+use Rattle.model.specs.Calls.{answer-to, next}
+use Rattle.register.specs.Memory.{state-of}
+use Rattle.model.specs.declared.call.Answer.{Answer}
+use Rattle.model.specs.declared.call.Answer.the-variants.{Done}
+use Rattle.model.specs.declared.call.Call.{Call}
+use Rattle.model.proofs.Refused.{mapped-answer, mapped-refused}
 use Rattle.history.proofs.take.take_call.Needs as need
 
 pub returns-in-Act : need.returns-in-Act

@@ -2,11 +2,11 @@ use mathlib.Core.Path.{ap, _∙_}
 use lib.ListN.{length}
 use Rattle.policy.specs.declared.table.PolicyTable.{PolicyTable}
 use Rattle.policy.specs.Tables.{policy-of}
-use Rattle.register.specs.Drafts.{DraftState, draft-refusal, drafted-by}
-use Rattle.register.specs.States.{draft-of}
-use Rattle.register.specs.declared.call.DraftCall.the-variants.{Rule}
+use Rattle.model.specs.Drafts.{DraftState, draft-refusal, drafted-by}
+use Rattle.register.specs.Memory.{draft-of}
+use Rattle.model.specs.declared.call.DraftCall.the-variants.{Rule}
 use Rattle.register.specs.declared.draft.Draft.{Draft}
-use Rattle.register.proofs.Refused.{stays}
+use Rattle.model.proofs.Refused.{stays}
 use Rattle.register.proofs.draft.Draft.rule.Needs as need
 
 pub returns-in-Err : need.returns-in-Err

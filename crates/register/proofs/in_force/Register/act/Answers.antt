@@ -1,7 +1,7 @@
-use Rattle.register.specs.States.{state-of}
-use Rattle.register.proofs.Allowing.{told-allowed}
-use Rattle.register.proofs.Changing.{told-changed}
-use Rattle.register.proofs.WellFormed.{formed}
+use Rattle.register.specs.Memory.{state-of}
+use Rattle.model.proofs.Allowing.{told-allowed}
+use Rattle.model.proofs.Changing.{told-changed}
+use Rattle.register.proofs.InMemory.{formed}
 use Rattle.register.proofs.in_force.Register.act.Needs as need
 
 pub returns : need.returns

@@ -9,10 +9,11 @@ use Rattle.policy.specs.Tables.{policy-of}
 use Rattle.policy.specs.declared.refusal.Refusal.{Refusal}
 use Rattle.policy.proofs.Policies.{kept-by}
 use Rattle.roster.specs.Holdings.{Held}
-use Rattle.register.specs.States.{State, state-of, of-roles}
-use Rattle.register.proofs.Acting.{goes, goes-held}
-use Rattle.register.proofs.Allowing.{allowed-if}
-use Rattle.register.proofs.WellFormed.{formed}
+use Rattle.model.specs.States.{State}
+use Rattle.register.specs.Memory.{state-of, of-roles}
+use Rattle.model.proofs.Acting.{goes, goes-held}
+use Rattle.model.proofs.Allowing.{allowed-if}
+use Rattle.register.proofs.InMemory.{formed}
 use Rattle.register.proofs.OfRoles.{changed-of-roles}
 use Rattle.register.proofs.in_force.Register.carry_out.Needs as need
 

@@ -3,10 +3,10 @@ use lib.Bits.{bitAnd}
 use Rattle.std.proofs.shelf.Ways.{decides-at}
 use Rattle.policy.specs.Masks.{shares}
 use Rattle.roster.specs.Holdings.{mask}
-use Rattle.register.specs.States.{state-of}
-use Rattle.register.specs.Uses.{may-use}
-use Rattle.register.proofs.Using.{uses-decides}
-use Rattle.register.proofs.WellFormed.{formed}
+use Rattle.register.specs.Memory.{state-of}
+use Rattle.model.specs.Uses.{may-use}
+use Rattle.model.proofs.Using.{uses-decides}
+use Rattle.register.proofs.InMemory.{formed}
 use Rattle.register.proofs.in_force.Register.may_use.Needs as need
 
 pub returns : need.returns

@@ -1,9 +1,9 @@
 use mathlib.Core.Path.{_≡_, sym, ap, _∙_}
 use Prim.Native.Nat.{_<_}
 use native.Mathlib.Omega.{arith}
-use Rattle.register.specs.Acts.{meets-at}
-use Rattle.register.specs.States.{state-of}
-use Rattle.register.proofs.OfRoles.{every-more, every-fails}
+use Rattle.model.specs.Acts.{meets-at}
+use Rattle.register.specs.Memory.{state-of}
+use Rattle.model.proofs.Every.{every-more, every-fails}
 use Rattle.register.proofs.in_force.Register.meets_in.Needs as need
 
 pub loop-slot-again : need.loop-slot-again

@@ -1,7 +1,7 @@
 use mathlib.Core.Path.{_≡_}
 use mathlib.Core.Bool.{true}
-use Rattle.register.specs.Acts.{meets-in}
-use Rattle.register.specs.States.{state-of}
+use Rattle.model.specs.Acts.{meets-in}
+use Rattle.register.specs.Memory.{state-of}
 use Rattle.register.proofs.in_force.Register.meets_in.Given as given
 
 abbrev pub Inv-loop-slot : given.InvT-loop-slot

@@ -8,7 +8,7 @@ use Rattle.std.specs.declared.result.Result.the-variants.{Ok, Err}
 use Rattle.std.proofs.shelf.Tests.{true≢false}
 use Rattle.policy.specs.Refusals.{answered, mapped-ok}
 use Rattle.policy.specs.declared.refusal.Refusal.{Refusal}
-use Rattle.register.specs.Drafts.{unless-refused}
+use Rattle.model.specs.Drafts.{unless-refused}
 
 -- where the answer is a refusal, the old value stays
 pub stays : {X Y : Type 0} (found : Option Refusal) (y : Y) (refusal : Refusal) (new old : X) → Err refusal ≡ answered found y → old ≡ unless-refused found new old

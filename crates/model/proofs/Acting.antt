@@ -8,9 +8,9 @@ use Rattle.policy.specs.Refusals.{first-failing}
 use Rattle.policy.specs.declared.refusal.Refusal.{Refusal}
 use Rattle.policy.specs.declared.rule.Rule.{Rule}
 use Rattle.roster.specs.Holdings.{altered}
-use Rattle.register.specs.Acts.{act-tests, refusal-by, held-by}
-use Rattle.register.specs.Drafts.{unless-refused}
-use Rattle.register.specs.States.{State}
+use Rattle.model.specs.Acts.{act-tests, refusal-by, held-by}
+use Rattle.model.specs.Drafts.{unless-refused}
+use Rattle.model.specs.States.{State}
 
 module _ (st : State) (rule : Rule) (officer target part : ℕ) where
   -- no test fails, and that is the rule

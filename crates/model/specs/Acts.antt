@@ -16,8 +16,8 @@ use Rattle.policy.specs.declared.refusal.Refusal.{Refusal}
 use Rattle.policy.specs.declared.refusal.Refusal.the-variants.{NoSuchRule, BadRow, BadSchedule, OutsideRoleSchedule, OutsideRuleSchedule, OfficerLacksRole, RoleNotEnabled, NeedOrBarFails}
 use Rattle.policy.specs.declared.rule.Rule.{Rule}
 use Rattle.roster.specs.Holdings.{Held, altered, mask}
-use Rattle.register.specs.Drafts.{unless-refused}
-use Rattle.register.specs.States.{State, slot-now}
+use Rattle.model.specs.Drafts.{unless-refused}
+use Rattle.model.specs.States.{State, slot-now}
 
 -- a person's row
 pub record Is-person (policy : Policy) (row : ℕ) : Type 0 where

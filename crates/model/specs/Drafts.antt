@@ -10,8 +10,8 @@ use Rattle.policy.specs.Refusals.{Test, first-failing}
 use Rattle.policy.specs.declared.refusal.Refusal.{Refusal}
 use Rattle.policy.specs.declared.refusal.Refusal.the-variants.{SizeTooLate, BadRow, RoleOutOfRange, BadSchedule}
 use Rattle.roster.specs.Holdings.{Held, nothing, altered}
-use Rattle.register.specs.declared.call.DraftCall.{DraftCall}
-use Rattle.register.specs.declared.call.DraftCall.the-variants.{Size, Put, Perm, Rule}
+use Rattle.model.specs.declared.call.DraftCall.{DraftCall}
+use Rattle.model.specs.declared.call.DraftCall.the-variants.{Size, Put, Perm, Rule}
 
 pub record DraftState : Type 0 where
   pub policy : Policy

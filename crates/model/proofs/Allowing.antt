@@ -2,8 +2,7 @@
 use mathlib.Core.Path.{_≡_, refl, sym, ap, subst, _∙_}
 use mathlib.Core.Logic.{⊎-elim}
 use mathlib.Core.Bool.{Bool, true, false, not, _&&_, _||_}
-use Prim.Native.Nat.{ℕ, zero, suc, _^_, _≤_, _<_}
-use native.Mathlib.Nat.{pow-suc}
+use Prim.Native.Nat.{ℕ, _^_, _<_}
 use native.Mathlib.Omega.{arith}
 use lib.Dec.{leb, ltb}
 use Rattle.std.specs.Finite.{nth}
@@ -19,14 +18,14 @@ use Rattle.policy.specs.Rules.{meets}
 use Rattle.policy.specs.Refusals.{answered}
 use Rattle.policy.specs.declared.refusal.Refusal.{Refusal}
 use Rattle.policy.specs.declared.rule.Rule.{Rule}
-use Rattle.policy.proofs.Bits.{bit-past, inside-decides, apart-decides, below-from-bits}
+use Rattle.policy.proofs.Bits.{bit-past, inside-decides, apart-decides, below-from-bits, own-power}
 use Rattle.policy.proofs.Passing.{Passing, passing, none-fails}
 use Rattle.policy.proofs.Policies.{Kept-by, kept-by}
 use Rattle.roster.specs.Holdings.{mask}
-use Rattle.register.specs.Acts.{Allowed, act-tests, act-refusal, refusal-by, meets-at}
-use Rattle.register.specs.States.{State}
-use Rattle.register.proofs.OfRoles.{every-holds, every-from}
-use Rattle.register.proofs.WellFormed.{Well-formed, bit-held}
+use Rattle.model.specs.Acts.{Allowed, act-tests, act-refusal, refusal-by, meets-at}
+use Rattle.model.specs.States.{State}
+use Rattle.model.proofs.Every.{every-holds, every-from}
+use Rattle.model.proofs.WellFormed.{Well-formed, bit-held}
 
 by-part : (here there : Bool) → (not here || there) ≡ true → here ≡ true → there ≡ true
 by-part true there e h = e
@@ -35,11 +34,6 @@ by-part false there e h = absurd (true≢false (sym h))
 part-by : (here there : Bool) → (here ≡ true → there ≡ true) → (not here || there) ≡ true
 part-by true there h = h refl
 part-by false there h = refl
-
--- a number has fewer bits than itself
-own-power : (n : ℕ) → n < 2 ^ n
-own-power zero = omega arith
-own-power (suc n) = omega (arith, own-power n, pow-suc 2 n)
 
 module _ (st : State) (fine : Well-formed st) (number officer target part : ℕ) where
   module _ (rule : Rule) (is-rule : nth (st .policy .rules) number ≡ Some rule) where

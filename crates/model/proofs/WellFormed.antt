@@ -1,18 +1,16 @@
 -- What every register in memory keeps, so that theorems about states owe no hypothesis. Assumes nothing.
 use mathlib.Core.Path.{_≡_, refl, _∙_}
 use mathlib.Core.Logic.{⊎-elim}
-use mathlib.Core.Bool.{Bool, true, false, _&&_}
+use mathlib.Core.Bool.{Bool, true, false}
 use Prim.Native.Nat.{ℕ, _≤_, _<_}
 use native.Mathlib.Omega.{arith}
-use lib.Dec.{ltb}
-use Rattle.std.proofs.shelf.Tests.{and-parts, ltb-true, cases-lt}
+use Rattle.std.proofs.shelf.Tests.{cases-lt}
 use Rattle.policy.specs.Masks.{bit}
 use Rattle.policy.specs.Policies.{All-proper, Masks-fit}
 use Rattle.policy.proofs.Bits.{bit-past}
-use Rattle.roster.specs.Holdings.{Held, mask}
+use Rattle.roster.specs.Holdings.{mask}
 use Rattle.roster.proofs.Masks.{mask-below, bit-mask}
-use Rattle.register.specs.States.{State, state-of, last-tick}
-use Rattle.register.specs.declared.in_force.Register.{Register}
+use Rattle.model.specs.States.{State, last-tick}
 
 pub record Well-formed (st : State) : Type 0 where
   pub few-roles : st .policy .roles ≤ 16
@@ -23,18 +21,6 @@ pub record Well-formed (st : State) : Type 0 where
   pub permissions : Masks-fit (st .policy .roles) (st .policy .permissions)
   pub clock : st .clock ≤ last-tick
   pub held : (row slot role : ℕ) → st .held row slot role ≡ true → role < st .policy .roles
-
-pub formed : {X : Type 0} (held : X → Held) (register : Register X) → Well-formed (state-of held register)
-formed held register = record {
-  few-roles = register .table .«few_roles»;
-  some-slot = register .table .«some_slot»;
-  few-slots = register .table .«few_slots»;
-  few-persons = register .table .«few_persons»;
-  rules = register .table .proper;
-  permissions = register .table .«masks_fit»;
-  clock = register .ticking;
-  held = λ row slot role e. ltb-true role (register .table .roles) (and-parts (ltb role (register .table .roles)) (held (register .roster) row slot role) e .0);
-}
 
 not-true-false : (b : Bool) → (b ≡ true → ⊥) → false ≡ b
 not-true-false true h = absurd (h refl)

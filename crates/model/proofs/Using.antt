@@ -11,9 +11,9 @@ use Rattle.policy.specs.Policies.{permission-mask}
 use Rattle.policy.proofs.Bits.{bit-and, shares-decides}
 use Rattle.roster.specs.Holdings.{mask}
 use Rattle.roster.proofs.Masks.{mask-below}
-use Rattle.register.specs.States.{State, slot-now}
-use Rattle.register.specs.Uses.{Uses, may-use}
-use Rattle.register.proofs.WellFormed.{Well-formed, bit-held}
+use Rattle.model.specs.States.{State, slot-now}
+use Rattle.model.specs.Uses.{Uses, may-use}
+use Rattle.model.proofs.WellFormed.{Well-formed, bit-held}
 
 module _ (st : State) (fine : Well-formed st) (person permission : ℕ) where
   abbrev own : ℕ

@@ -12,7 +12,7 @@ use Rattle.policy.specs.Refusals.{Test, first-failing}
 use Rattle.policy.specs.declared.refusal.Refusal.{Refusal}
 use Rattle.policy.specs.declared.refusal.Refusal.the-variants.{BadRow, NoSuchPermission}
 use Rattle.roster.specs.Holdings.{mask}
-use Rattle.register.specs.States.{State, slot-now}
+use Rattle.model.specs.States.{State, slot-now}
 
 -- some role of the permission is held in the slot now by the person's row and by row 0
 pub record Uses (st : State) (person permission : ℕ) : Type 0 where

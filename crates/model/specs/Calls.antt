@@ -3,13 +3,13 @@ use mathlib.Core.List.{List, [], _∷_}
 use Rattle.std.specs.declared.result.Result.{Result}
 use Rattle.policy.specs.Refusals.{answered}
 use Rattle.policy.specs.declared.refusal.Refusal.{Refusal}
-use Rattle.register.specs.Acts.{act-refusal, acted}
-use Rattle.register.specs.States.{State, tick-refusal, ticked}
-use Rattle.register.specs.Uses.{may-refusal, may-use}
-use Rattle.register.specs.declared.call.Answer.{Answer}
-use Rattle.register.specs.declared.call.Answer.the-variants.{Done, MayUse}
-use Rattle.register.specs.declared.call.Call.{Call}
-use Rattle.register.specs.declared.call.Call.the-variants.{Tick, Act, May}
+use Rattle.model.specs.Acts.{act-refusal, acted}
+use Rattle.model.specs.States.{State, tick-refusal, ticked}
+use Rattle.model.specs.Uses.{may-refusal, may-use}
+use Rattle.model.specs.declared.call.Answer.{Answer}
+use Rattle.model.specs.declared.call.Answer.the-variants.{Done, MayUse}
+use Rattle.model.specs.declared.call.Call.{Call}
+use Rattle.model.specs.declared.call.Call.the-variants.{Tick, Act, May}
 
 abbrev pub answer-to : Call → State → Result Answer Refusal
 answer-to Tick st = answered (tick-refusal st) Done

@@ -16,9 +16,9 @@ use Rattle.policy.specs.Refusals.{answered}
 use Rattle.policy.specs.declared.refusal.Refusal.{Refusal}
 use Rattle.policy.specs.declared.rule.Rule.{Rule}
 use Rattle.roster.specs.Holdings.{Held, altered}
-use Rattle.register.specs.Acts.{Changed-by, act-refusal, acted, held-by}
-use Rattle.register.specs.Drafts.{unless-refused}
-use Rattle.register.specs.States.{State}
+use Rattle.model.specs.Acts.{Changed-by, act-refusal, acted, held-by}
+use Rattle.model.specs.Drafts.{unless-refused}
+use Rattle.model.specs.States.{State}
 
 -- a change touches its row, slots and role
 module _ (to : Bool) (row role part : ℕ) (held : Held) where

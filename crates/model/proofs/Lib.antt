@@ -1,0 +1,11 @@
+pub mod Refused
+pub mod Every
+pub mod Acting
+pub mod WellFormed
+pub mod Allowing
+pub mod Changing
+pub mod Using
+pub mod Formed
+pub mod Walking
+pub mod Cutting
+pub mod Reaching
