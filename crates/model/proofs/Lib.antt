@@ -9,3 +9,4 @@ pub mod Formed
 pub mod Walking
 pub mod Cutting
 pub mod Reaching
+pub mod Holding

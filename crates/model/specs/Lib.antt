@@ -5,4 +5,5 @@ pub mod Uses
 pub mod Calls
 pub mod Watched
 pub mod Bounds
+pub mod Holds
 pub mod Reached
