@@ -10,3 +10,4 @@ pub mod Walking
 pub mod Cutting
 pub mod Reaching
 pub mod Holding
+pub mod Labelling

@@ -7,3 +7,4 @@ pub mod Watched
 pub mod Bounds
 pub mod Holds
 pub mod Reached
+pub mod Surveys
