@@ -11,3 +11,4 @@ pub mod Cutting
 pub mod Reaching
 pub mod Holding
 pub mod Labelling
+pub mod Surveying
