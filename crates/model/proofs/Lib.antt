@@ -12,3 +12,4 @@ pub mod Reaching
 pub mod Holding
 pub mod Labelling
 pub mod Surveying
+pub mod Telling

@@ -8,3 +8,4 @@ pub mod Bounds
 pub mod Holds
 pub mod Reached
 pub mod Surveys
+pub mod SurveyCalls

@@ -1,2 +1,4 @@
 pub mod OfRoles
 pub mod InMemory
+pub mod Counting
+pub mod Filling

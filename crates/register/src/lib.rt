@@ -1,4 +1,7 @@
-mod acts;
 pub mod draft;
 pub mod in_force;
+pub mod surveys;
+
+mod acts;
+mod labels;
 mod uses;
