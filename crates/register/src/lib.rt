@@ -1,7 +1,6 @@
+mod acts;
 pub mod draft;
 pub mod in_force;
-pub mod surveys;
-
-mod acts;
 mod labels;
+pub mod surveys;
 mod uses;

@@ -1,9 +1,21 @@
+ghost use Prim.Native.Nat.{_≤_};
+ghost use lib.ListN.{length};
+ghost use Rattle.std.specs.Slices.{found};
 use crate::line::Line;
 use crate::word::Word;
 use model::call::Call;
 use model::call::DraftCall;
 use policy::kind::Kind;
 use policy::rule::ProposedRule;
+use policy::watch::Watch;
+
+// The kind of toll that a survey asks for.
+#[derive(Clone, Copy)]
+pub enum TollKind {
+    Acts,
+    Grade,
+    Clock,
+}
 
 // What a readable line asks for.
 #[derive(Clone, Copy)]
@@ -11,11 +23,17 @@ pub enum Command {
     Draft(DraftCall),
     Force,
     InForce(Call),
+    Survey { toll: TollKind, watch: Watch },
 }
 
 impl Command {
-    // The command that the line spells, if it is readable.
-    pub fn read(bytes: &[u8], number: u32) -> Option<Command> {
+    // The command that the line spells, if it is readable. No command is shorter than `tick`.
+    pub fn read(bytes: &[u8], number: u32) -> Option<Command>
+        ensures { λ r. ⌜ found r (λ _. 4 ≤ length (now (bytes .entry))) ⌝ }
+    {
+        if bytes.len() < 4 {
+            return None;
+        }
         let mut line = Line::new(bytes, number);
         let Word::Name { part, .. } = line.word()? else {
             return None;
@@ -36,6 +54,7 @@ fn named(name: &[u8], line: &mut Line) -> Option<Command> {
         b"tick" => Some(Command::InForce(Call::Tick)),
         b"act" => act(line),
         b"may" => may(line),
+        b"survey" => survey(line),
         _ => None,
     }
 }
@@ -118,4 +137,33 @@ fn act(line: &mut Line) -> Option<Command> {
 fn may(line: &mut Line) -> Option<Command> {
     let [person, permission] = line.numbers::<2>()?;
     Some(Command::InForce(Call::May { person, permission }))
+}
+
+fn survey(line: &mut Line) -> Option<Command> {
+    let toll = toll(line)?;
+    let [row, slot, permission] = line.numbers::<3>()?;
+    Some(Command::Survey {
+        toll,
+        watch: Watch {
+            row,
+            slot,
+            permission,
+        },
+    })
+}
+
+// A kind of toll is one letter, and an unknown one is unreadable.
+fn toll(line: &mut Line) -> Option<TollKind> {
+    let Word::Letter { part, .. } = line.word()? else {
+        return None;
+    };
+    let [letter] = part else {
+        return None;
+    };
+    match char::from(*letter) {
+        'a' => Some(TollKind::Acts),
+        'g' => Some(TollKind::Grade),
+        'c' => Some(TollKind::Clock),
+        _ => None,
+    }
 }
