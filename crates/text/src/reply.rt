@@ -17,7 +17,7 @@ pub enum Reply {
 
 impl Reply {
     // Writes the reply and a line's end from that place on, and answers the place behind them.
-    pub fn write(self, out: &mut [u8], at: usize) -> usize
+    pub(crate) fn write(self, out: &mut [u8], at: usize) -> usize
         requires { ⌜ at + 44 ≤ length (now out) ⌝ }
         ensures low { λ r. ⌜ at ≤ r ⌝ }
         ensures high { λ r. ⌜ r ≤ at + 44 ⌝ }
