@@ -1,3 +1,5 @@
+#![tactic(auto)]
+
 // Runs a table of plans and compares what is printed with what must be. A line of the table is a line of a plan and, after
 // ' | ', its outcome ('ok' where there is none); an empty line begins the next plan, and a line that begins with '#' is a
 // remark.

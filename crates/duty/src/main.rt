@@ -1,3 +1,5 @@
+#![tactic(auto)]
+
 // Reads a plan of duty from standard input, executes it line by line, and prints each line's outcome.
 use policy::refusal::Refusal;
 use roster::grid::Grid;

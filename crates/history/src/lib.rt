@@ -1,2 +1,4 @@
+#![tactic(auto)]
+
 pub mod plan;
 pub mod take;

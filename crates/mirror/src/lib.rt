@@ -1,3 +1,5 @@
+#![tactic(auto)]
+
 pub mod roster_pair;
 #[cfg(test)]
 mod tests;

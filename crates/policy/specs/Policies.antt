@@ -1,7 +1,7 @@
 -- What stays while a register is in force: its sizes, permissions and rules. Assumes nothing.
-use Rattle.std.specs.Prelude.{◌≡◌, ℕ, ◌^◌, ◌<◌, ◌≤◌, Bool, true, false, ◌&&◌, List, [], ◌∷◌, ◌++◌, length, set, replicate, is_some, Some, None, Option, nat_le, nat_lt, slice_index, slice_set}
+use Rattle.std.specs.Prelude.{◌≡◌, ℕ, ◌^◌, ◌<◌, Bool, true, ◌&&◌, List, [], ◌∷◌, ◌++◌, length, replicate, is_some, Some, None, Option, nat_le, nat_lt, slice_index, slice_set}
 use Rattle.std.specs.List.{slice_get}
-use Rattle.policy.specs.Masks.{apart, Apart}
+use Rattle.policy.specs.Masks.{apart}
 use Rattle.policy.specs.Refusals.{Test}
 use Rattle.policy.specs.declared.kind.Kind.{Kind}
 use Rattle.policy.specs.declared.refusal.Refusal.TheVariants.{SizeOutOfRange, UnknownKind, RoleOutOfRange, BadSchedule, NeedSharesBar, GradeTooHigh, NoSuchPermission, TooManyRules}

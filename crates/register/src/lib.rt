@@ -1,3 +1,5 @@
+#![tactic(auto)]
+
 mod acts;
 pub mod draft;
 pub mod in_force;

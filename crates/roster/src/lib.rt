@@ -1,3 +1,5 @@
+#![tactic(auto)]
+
 pub mod grid;
 mod limits;
 mod role_schedules;

@@ -1,3 +1,5 @@
+#![tactic(auto)]
+
 pub mod acts;
 pub mod acts_toll;
 pub mod clock;

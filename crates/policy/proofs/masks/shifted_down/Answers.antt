@@ -1,4 +1,4 @@
-use Rattle.std.proofs.Common.{◌≡◌, ◌^◌, ◌<◌, ◌≤◌, sym, ap, ◌∙◌, arith, pow_mono, rules}
+use Rattle.std.proofs.Common.{◌^◌, ◌<◌, ◌≤◌, sym, ◌∙◌, arith, pow_mono, rules}
 use Rattle.std.proofs.lemmas.Bool.{lt-ltb}
 use Rattle.policy.proofs.Bits.{bit_shifted, bit_none, bit_past, shifted_out}
 use Rattle.policy.proofs.masks.shifted_down.Goals as goal

@@ -1,24 +1,8 @@
-use Rattle.std.proofs.Common.{refl, arith}
 use Rattle.policy.proofs.Policies.{blank_masks, none_proper}
 use Rattle.policy.proofs.table.PolicyTable.blank.Goals as goal
 
-pub invariant-of-result : goal.invariant-of-result
-invariant-of-result c = (
-  c.requires.some-role,
-  (
-    c.requires.few_roles,
-    (
-      c.requires.some_slot,
-      (
-        c.requires.few_slots,
-        (
-          c.requires.some-person,
-          (
-            c.requires.few_persons,
-            (omega arith, (refl, (blank_masks c.args.roles 32, (none_proper c.args.roles c.args.slots, tt)))),
-          ),
-        ),
-      ),
-    ),
-  ),
-)
+pub invariant_of-result-clause-masks_fit : goal.invariant_of-result-clause-masks_fit
+invariant_of-result-clause-masks_fit c = blank_masks c.args.roles 32
+
+pub invariant_of-result-clause-proper : goal.invariant_of-result-clause-proper
+invariant_of-result-clause-proper c = none_proper c.args.roles c.args.slots
