@@ -16,14 +16,14 @@ loop-call-preserved g c =
     let held = g.R.Roster.held in
     let calls = c.args.calls.now in
     let before = state_of held c.loop-call.register in
-    let after = state_of held c.take-call.new.register in
+    let after = state_of held c.take_call.new.register in
     let inv = c.loop-call.invariant in
     let here = c.loop-call-test.true in (
-      answered_more answer_to next answers_to (λ call rest s. refl) calls c.loop-call.call-index (Tick) (vec_items c.loop-call.answers) (vec_items c.push-reserved.new.self) c.take-call.result before after _ here
-          c.push-reserved.ensures.items c.take-call.ensures.answer c.take-call.ensures.after inv.0,
-      moved_more answer_to next run (λ call rest s. refl) calls c.loop-call.call-index (Tick) before after _ here c.take-call.ensures.after inv.1,
-      omega (arith, inv.2, c.push-reserved.ensures.len),
-      omega (arith, inv.3, c.push-reserved.ensures.capacity),
+      answered_more answer_to next answers_to (λ call rest s. refl) calls c.loop-call.call-index (Tick) (vec_items c.loop-call.answers) (vec_items c.push_reserved.new.self) c.take_call.result before after _ here
+          c.push_reserved.ensures.items c.take_call.ensures.answer c.take_call.ensures.after inv.0,
+      moved_more answer_to next run (λ call rest s. refl) calls c.loop-call.call-index (Tick) before after _ here c.take_call.ensures.after inv.1,
+      omega (arith, inv.2, c.push_reserved.ensures.len),
+      omega (arith, inv.3, c.push_reserved.ensures.capacity),
     )
 
 pub returns : goal.returns

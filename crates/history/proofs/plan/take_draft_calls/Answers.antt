@@ -16,14 +16,14 @@ loop-call-preserved g c =
     let held = g.R.Roster.held in
     let calls = c.args.calls.now in
     let before = draft_of held c.loop-call.draft in
-    let after = draft_of held c.take-draft-call.new.draft in
+    let after = draft_of held c.take_draft_call.new.draft in
     let inv = c.loop-call.invariant in
     let here = c.loop-call-test.true in (
-      answered_more draft_answer next_draft draft_answers (λ call rest s. refl) calls c.loop-call.call-index (Size 0 0 0) (vec_items c.loop-call.answers) (vec_items c.push-reserved.new.self) c.take-draft-call.result before after _ here
-          c.push-reserved.ensures.items c.take-draft-call.ensures.answer c.take-draft-call.ensures.after inv.0,
-      moved_more draft_answer next_draft drafted (λ call rest s. refl) calls c.loop-call.call-index (Size 0 0 0) before after _ here c.take-draft-call.ensures.after inv.1,
-      omega (arith, inv.2, c.push-reserved.ensures.len),
-      omega (arith, inv.3, c.push-reserved.ensures.capacity),
+      answered_more draft_answer next_draft draft_answers (λ call rest s. refl) calls c.loop-call.call-index (Size 0 0 0) (vec_items c.loop-call.answers) (vec_items c.push_reserved.new.self) c.take_draft_call.result before after _ here
+          c.push_reserved.ensures.items c.take_draft_call.ensures.answer c.take_draft_call.ensures.after inv.0,
+      moved_more draft_answer next_draft drafted (λ call rest s. refl) calls c.loop-call.call-index (Size 0 0 0) before after _ here c.take_draft_call.ensures.after inv.1,
+      omega (arith, inv.2, c.push_reserved.ensures.len),
+      omega (arith, inv.3, c.push_reserved.ensures.capacity),
     )
 
 pub returns : goal.returns
