@@ -1,7 +1,7 @@
 -- Calls keep a state well-formed. Assumes nothing.
-use Rattle.std.proofs.Common.{◌≡◌, ℕ, ◌+◌, ◌<◌, ◌≤◌, Bool, true, false, cond, ◌&&◌, eqb, ltb, List, [], ◌∷◌, Some, None, Option, sym, refl, ap, ◌∙◌, subst, arith}
+use Rattle.std.proofs.Common.{◌≡◌, ℕ, ◌+◌, ◌<◌, ◌≤◌, Bool, true, false, cond, ◌&&◌, eqb, ltb, Some, None, Option, sym, refl, arith}
 use Rattle.std.specs.List.{slice_get}
-use Rattle.std.proofs.lemmas.Bool.{and_parts, eqb-true, ltb-true, true≢false}
+use Rattle.std.proofs.lemmas.Bool.{and_parts, eqb-true, ltb-true}
 use Rattle.policy.specs.Kinds.{adds}
 use Rattle.policy.specs.Masks.{bit}
 use Rattle.policy.specs.declared.refusal.Refusal.{Refusal}
@@ -9,9 +9,9 @@ use Rattle.policy.specs.declared.rule.Rule.{Rule}
 use Rattle.policy.proofs.Policies.{kept_by}
 use Rattle.roster.specs.Holdings.{Held, altered}
 use Rattle.model.specs.Acts.{act_refusal, acted, held_by}
-use Rattle.model.specs.Calls.{next, run}
+use Rattle.model.specs.Calls.{next}
 use Rattle.model.specs.Drafts.{unless_refused}
-use Rattle.model.specs.States.{State, ticked, tick_refusal, last_tick}
+use Rattle.model.specs.States.{State, ticked, last_tick}
 use Rattle.model.specs.declared.call.Call.{Call}
 use Rattle.model.specs.declared.call.Call.TheVariants.{Tick, Act, May}
 use Rattle.model.proofs.WellFormed.{WellFormed}

@@ -1,5 +1,5 @@
 -- The test of `may` tells whether the person may use the permission. Assumes nothing.
-use Rattle.std.proofs.Common.{◌≡◌, ℕ, ◌^◌, ◌<◌, Bool, true, ◌&&◌, Decides, sym, ◌∙◌, arith}
+use Rattle.std.proofs.Common.{ℕ, Decides, sym, ◌∙◌, arith}
 use lib.Bits.{bit_and, and_le_l}
 use Rattle.std.proofs.lemmas.Bool.{and_parts, and_from}
 use Rattle.policy.specs.Masks.{bit, Shares}

@@ -1,5 +1,5 @@
 -- Acts: when one is allowed, why one is refused, and what one changes. Assumes nothing.
-use Rattle.std.specs.Prelude.{◌≡◌, ℕ, zero, suc, ◌^◌, ◌<◌, ◌≤◌, Bool, true, false, not, ◌&&◌, ◌||◌, List, [], ◌∷◌, Some, None, Option, ◌≢◌, nat_le}
+use Rattle.std.specs.Prelude.{◌≡◌, ℕ, zero, suc, ◌<◌, ◌≤◌, Bool, true, false, not, ◌&&◌, ◌||◌, List, [], ◌∷◌, Some, None, Option, ◌≢◌, nat_le}
 use Rattle.std.specs.List.{slice_get}
 use Rattle.policy.specs.Kinds.{adds, changes}
 use Rattle.policy.specs.Masks.{bit, Inside, inside}

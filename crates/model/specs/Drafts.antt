@@ -1,5 +1,5 @@
 -- A draft: its calls, their refusals in order, and what each makes of it. Assumes nothing.
-use Rattle.std.specs.Prelude.{ℕ, Bool, true, false, ◌&&◌, List, [], ◌∷◌, Some, None, Option, nat_le, nat_lt}
+use Rattle.std.specs.Prelude.{Bool, true, false, List, [], ◌∷◌, Some, None, Option, nat_le, nat_lt}
 use Rattle.policy.specs.Policies.{Policy, blank, with_permission, with_proposed, schedule_fits, size_tests, permission_tests, rule_tests}
 use Rattle.policy.specs.Refusals.{Test, first_failing}
 use Rattle.policy.specs.declared.refusal.Refusal.{Refusal}
