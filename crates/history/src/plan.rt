@@ -27,7 +27,7 @@ pub fn execute<R: Roster + Drop>(
     draft_calls: &[DraftCall],
     calls: &[Call],
 ) -> Result<Outcome<R>, AllocError>
-    ensures state { IfOk result (λ outcome. state_of held outcome.register ≡ history draft_calls.now calls.now) }
+    ensures state { IfOk result (λ outcome. state_of R.held outcome.register ≡ history draft_calls.now calls.now) }
     ensures drafted { IfOk result (λ outcome. outcome.drafted.items ≡ draft_answers draft_calls.now new_draft) }
     ensures answers { IfOk result (λ outcome. outcome.answers.items ≡ answers_to calls.now (forced draft_calls.now)) }
 {
@@ -48,8 +48,8 @@ fn take_draft_calls<R: Roster>(
     heap: Global,
     calls: &[DraftCall],
 ) -> Result<Vec<Result<(), Refusal>>, AllocError>
-    ensures answer { IfOk result (λ answers. answers.items ≡ draft_answers calls.now (draft_of held draft.old)) }
-    ensures after { OnOk result (draft_of held draft.new ≡ drafted calls.now (draft_of held draft.old)) }
+    ensures answer { IfOk result (λ answers. answers.items ≡ draft_answers calls.now (draft_of R.held draft.old)) }
+    ensures after { OnOk result (draft_of R.held draft.new ≡ drafted calls.now (draft_of R.held draft.old)) }
     ensures kept { OnErr result (draft.new ≡ draft.old) }
 {
     let mut answers = Vec::with_capacity(heap, calls.len())?;
@@ -65,8 +65,8 @@ fn take_calls<R: Roster>(
     heap: Global,
     calls: &[Call],
 ) -> Result<Vec<Result<Answer, Refusal>>, AllocError>
-    ensures answer { IfOk result (λ answers. answers.items ≡ answers_to calls.now (state_of held register.old)) }
-    ensures after { OnOk result (state_of held register.new ≡ run calls.now (state_of held register.old)) }
+    ensures answer { IfOk result (λ answers. answers.items ≡ answers_to calls.now (state_of R.held register.old)) }
+    ensures after { OnOk result (state_of R.held register.new ≡ run calls.now (state_of R.held register.old)) }
     ensures kept { OnErr result (register.new ≡ register.old) }
 {
     let mut answers = Vec::with_capacity(heap, calls.len())?;

@@ -12,8 +12,8 @@ use roster::traits::Roster;
 
 // Has a draft take a call that is given as a value.
 pub fn take_draft_call<R: Roster>(draft: &mut Draft<R>, call: DraftCall) -> Result<(), Refusal>
-    ensures answer { result ≡ answered (draft_refusal call (draft_of held draft.old)) tt }
-    ensures after { draft_of held draft.new ≡ next_draft call (draft_of held draft.old) }
+    ensures answer { result ≡ answered (draft_refusal call (draft_of R.held draft.old)) tt }
+    ensures after { draft_of R.held draft.new ≡ next_draft call (draft_of R.held draft.old) }
     ensures kept { OnErr result (draft.new ≡ draft.old) }
 {
     match call {
@@ -37,8 +37,8 @@ pub fn take_draft_call<R: Roster>(draft: &mut Draft<R>, call: DraftCall) -> Resu
 
 // Has a register in force take a call that is given as a value.
 pub fn take_call<R: Roster>(register: &mut Register<R>, call: Call) -> Result<Answer, Refusal>
-    ensures answer { result ≡ answer_to call (state_of held register.old) }
-    ensures after { state_of held register.new ≡ next call (state_of held register.old) }
+    ensures answer { result ≡ answer_to call (state_of R.held register.old) }
+    ensures after { state_of R.held register.new ≡ next call (state_of R.held register.old) }
     ensures kept { OnErr result (register.new ≡ register.old) }
 {
     match call {

@@ -1,5 +1,5 @@
 -- What a draft or a register in memory stands for, by what its roster holds. Assumes nothing.
-use Rattle.std.specs.Prelude.{ℕ, Bool, ◌&&◌, nat_lt}
+use Rattle.std.specs.Prelude.{ℕ, ◌&&◌, nat_lt}
 use Rattle.policy.specs.Tables.{policy_of}
 use Rattle.roster.specs.Holdings.{Held}
 use Rattle.model.specs.Drafts.{DraftState}

@@ -19,35 +19,35 @@ use roster::traits::Roster;
 impl<R: Roster> Register<R> {
     // The slot of the repeating clock.
     pub(crate) fn slot_now(&self) -> u32
-        ensures { result ≡ slot_now (state_of held self.now) }
+        ensures { result ≡ slot_now (state_of R.held self.now) }
     {
         self.clock % self.table.slots
     }
 
     // The mask of the roles that the row holds in the slot, of those that there are.
     pub(crate) fn mask(&self, row: u32, slot: u32) -> u16
-        ensures { result ≡ mask (state_of held self.now).held row slot }
+        ensures { result ≡ mask (state_of R.held self.now).held row slot }
     {
         self.roster.mask(row, slot) & all_below(self.table.roles)
     }
 
     // Whether the row holds the role in the slot.
     fn holds(&self, row: u32, slot: u32, role: u32) -> bool
-        ensures { result ≡ (state_of held self.now).held row slot role }
+        ensures { result ≡ (state_of R.held self.now).held row slot role }
     {
         has_bit(self.mask(row, slot) as u32, role)
     }
 
     // Whether the target row meets the rule in the slot, if the part has that slot.
     fn meets_at(&self, rule: Rule, target: u32, part: u32, slot: u32) -> bool
-        ensures { result ≡ meets_at (state_of held self.now).held rule target part slot }
+        ensures { result ≡ meets_at (state_of R.held self.now).held rule target part slot }
     {
         !has_bit(part, slot) || rule.meets(self.mask(target, slot))
     }
 
     // Whether the target row meets the rule in every slot of the part.
     fn meets_in(&self, rule: Rule, target: u32, part: u32) -> bool
-        ensures { result ≡ meets_in (state_of held self.now).held rule target part self.now.table.slots }
+        ensures { result ≡ meets_in (state_of R.held self.now).held rule target part self.now.table.slots }
     {
         for slot in 0..self.table.slots {
             if !self.meets_at(rule, target, part, slot) {
@@ -67,7 +67,7 @@ impl<R: Roster> Register<R> {
 
     // Why an act by the rule is refused, if it is.
     fn objection(&self, rule: Rule, officer: u32, target: u32, part: u32) -> Option<Refusal>
-        ensures { result ≡ first_failing (act_tests (state_of held self.now) rule officer target part) }
+        ensures { result ≡ first_failing (act_tests (state_of R.held self.now) rule officer target part) }
     {
         if !self.rows_fit(rule, officer, target) {
             return Some(Refusal::BadRow);
@@ -96,8 +96,8 @@ impl<R: Roster> Register<R> {
 
     // Moves the clock on by one tick.
     pub fn tick(&mut self) -> Result<(), Refusal>
-        ensures answer { result ≡ answered (tick_refusal (state_of held self.old)) tt }
-        ensures after { state_of held self.new ≡ ticked (state_of held self.old) }
+        ensures answer { result ≡ answered (tick_refusal (state_of R.held self.old)) tt }
+        ensures after { state_of R.held self.new ≡ ticked (state_of R.held self.old) }
         ensures kept { OnErr result (self.new ≡ self.old) }
     {
         if self.clock >= LAST_TICK {
@@ -109,19 +109,19 @@ impl<R: Roster> Register<R> {
 
     // An officer acts by a rule: it adds or takes the rule's role in the target row for the slots of the part.
     pub fn act(&mut self, rule: u32, officer: u32, target: u32, part: u32) -> Result<(), Refusal>
-        ensures answer { result ≡ answered (act_refusal (state_of held self.old) rule officer target part) tt }
-        ensures after { state_of held self.new ≡ acted (state_of held self.old) rule officer target part }
+        ensures answer { result ≡ answered (act_refusal (state_of R.held self.old) rule officer target part) tt }
+        ensures after { state_of R.held self.new ≡ acted (state_of R.held self.old) rule officer target part }
         ensures kept { OnErr result (self.new ≡ self.old) }
-        ensures allowed { Decides (is_ok result) (Allowed (state_of held self.old) rule officer target part) }
-        ensures changes { OnOk result ((found : Rule) → IsRule (policy_of self.old.table) rule found → ChangedBy found target part (state_of held self.old) (state_of held self.new)) }
+        ensures allowed { Decides (is_ok result) (Allowed (state_of R.held self.old) rule officer target part) }
+        ensures changes { OnOk result ((found : Rule) → IsRule (policy_of self.old.table) rule found → ChangedBy found target part (state_of R.held self.old) (state_of R.held self.new)) }
     {
         self.attempt(rule, officer, target, part)
     }
 
     // Tests the act, and carries it out if no test fails.
     fn attempt(&mut self, number: u32, officer: u32, target: u32, part: u32) -> Result<(), Refusal>
-        ensures answer { result ≡ answered (act_refusal (state_of held self.old) number officer target part) tt }
-        ensures after { state_of held self.new ≡ acted (state_of held self.old) number officer target part }
+        ensures answer { result ≡ answered (act_refusal (state_of R.held self.old) number officer target part) tt }
+        ensures after { state_of R.held self.new ≡ acted (state_of R.held self.old) number officer target part }
         ensures kept { OnErr result (self.new ≡ self.old) }
     {
         let Some(rule) = self.table.rule(number) else {
@@ -143,9 +143,9 @@ impl<R: Roster> Register<R> {
         part: u32,
     ) -> Result<(), Refusal>
         requires is_rule { Some rule ≡ slice_get (policy_of self.old.table).rules number }
-        requires passes { None ≡ first_failing (act_tests (state_of held self.old) rule officer target part) }
-        ensures answer { result ≡ answered (act_refusal (state_of held self.old) number officer target part) tt }
-        ensures after { state_of held self.new ≡ acted (state_of held self.old) number officer target part }
+        requires passes { None ≡ first_failing (act_tests (state_of R.held self.old) rule officer target part) }
+        ensures answer { result ≡ answered (act_refusal (state_of R.held self.old) number officer target part) tt }
+        ensures after { state_of R.held self.new ≡ acted (state_of R.held self.old) number officer target part }
         ensures kept { OnErr result (self.new ≡ self.old) }
     {
         apply(&mut self.roster, rule, target, part);
@@ -155,7 +155,7 @@ impl<R: Roster> Register<R> {
 
 // Adds or takes the rule's role in the row for the slots of the part.
 fn apply<R: Roster>(roster: &mut R, rule: Rule, row: u32, part: u32)
-    ensures { held roster.new ≡ changed (adds rule.kind) row rule.role part (held roster.old) }
+    ensures { R.held roster.new ≡ changed (adds rule.kind) row rule.role part (R.held roster.old) }
 {
     if rule.kind.adds() {
         roster.add(row, rule.role, part);

@@ -24,7 +24,7 @@ pub struct Draft<R> {
 impl<R: Roster> Draft<R> {
     // Empties the roster and starts with one role, one slot and one person.
     pub fn begin(mut roster: R) -> Draft<R>
-        ensures { draft_of held result ≡ new_draft }
+        ensures { draft_of R.held result ≡ new_draft }
     {
         roster.clear();
         Draft {
@@ -36,8 +36,8 @@ impl<R: Roster> Draft<R> {
 
     // Sets the number of roles, slots and persons, as long as nothing else was drafted.
     pub fn size(&mut self, roles: u32, slots: u32, persons: u32) -> Result<(), Refusal>
-        ensures answer { result ≡ answered (draft_refusal (Size roles slots persons) (draft_of held self.old)) tt }
-        ensures after { draft_of held self.new ≡ next_draft (Size roles slots persons) (draft_of held self.old) }
+        ensures answer { result ≡ answered (draft_refusal (Size roles slots persons) (draft_of R.held self.old)) tt }
+        ensures after { draft_of R.held self.new ≡ next_draft (Size roles slots persons) (draft_of R.held self.old) }
         ensures kept { OnErr result (self.new ≡ self.old) }
     {
         if !self.fresh {
@@ -55,8 +55,8 @@ impl<R: Roster> Draft<R> {
 
     // The row holds the role from then on in the slots of the schedule.
     pub fn put(&mut self, row: u32, role: u32, schedule: u32) -> Result<(), Refusal>
-        ensures answer { result ≡ answered (draft_refusal (Put row role schedule) (draft_of held self.old)) tt }
-        ensures after { draft_of held self.new ≡ next_draft (Put row role schedule) (draft_of held self.old) }
+        ensures answer { result ≡ answered (draft_refusal (Put row role schedule) (draft_of R.held self.old)) tt }
+        ensures after { draft_of R.held self.new ≡ next_draft (Put row role schedule) (draft_of R.held self.old) }
         ensures kept { OnErr result (self.new ≡ self.old) }
     {
         if row > self.table.persons {
@@ -75,8 +75,8 @@ impl<R: Roster> Draft<R> {
 
     // Sets the mask of a permission: the roles that give it.
     pub fn perm(&mut self, permission: u32, mask: u32) -> Result<(), Refusal>
-        ensures answer { result ≡ answered (draft_refusal (Perm permission mask) (draft_of held self.old)) tt }
-        ensures after { draft_of held self.new ≡ next_draft (Perm permission mask) (draft_of held self.old) }
+        ensures answer { result ≡ answered (draft_refusal (Perm permission mask) (draft_of R.held self.old)) tt }
+        ensures after { draft_of R.held self.new ≡ next_draft (Perm permission mask) (draft_of R.held self.old) }
         ensures kept { OnErr result (self.new ≡ self.old) }
     {
         match self.table.set_permission(permission, mask) {
@@ -90,8 +90,8 @@ impl<R: Roster> Draft<R> {
 
     // Appends a rule, and answers its number.
     pub fn rule(&mut self, proposed: ProposedRule) -> Result<u32, Refusal>
-        ensures answer { result ≡ answered (draft_refusal (Rule proposed) (draft_of held self.old)) (length (policy_of self.old.table).rules) }
-        ensures after { draft_of held self.new ≡ next_draft (Rule proposed) (draft_of held self.old) }
+        ensures answer { result ≡ answered (draft_refusal (Rule proposed) (draft_of R.held self.old)) (length (policy_of self.old.table).rules) }
+        ensures after { draft_of R.held self.new ≡ next_draft (Rule proposed) (draft_of R.held self.old) }
         ensures kept { OnErr result (self.new ≡ self.old) }
     {
         match self.table.append(proposed) {
@@ -105,7 +105,7 @@ impl<R: Roster> Draft<R> {
 
     // Puts the draft in force: a register with the same policy and holdings, and clock 0.
     pub fn force(self) -> Register<R>
-        ensures { state_of held result ≡ in_force (draft_of held self) }
+        ensures { state_of R.held result ≡ in_force (draft_of R.held self) }
     {
         let Draft {
             table,

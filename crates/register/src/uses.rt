@@ -1,4 +1,4 @@
-ghost use Rattle.std.specs.Prelude.{◌≡◌, Decides};
+ghost use Rattle.std.specs.Prelude.{◌≡◌, Decides, IfOk};
 ghost use Rattle.policy.specs.Refusals.{answered};
 ghost use Rattle.register.specs.Memory.{state_of};
 ghost use Rattle.model.specs.Uses.{Uses, may_use, may_refusal};
@@ -12,8 +12,8 @@ use roster::traits::Roster;
 impl<R: Roster> Register<R> {
     // Whether the person may use the permission in the slot now.
     pub fn may(&self, person: u32, permission: u32) -> Result<bool, Refusal>
-        ensures answer { result ≡ answered (may_refusal (state_of held self.now) person permission) (may_use (state_of held self.now) person permission) }
-        ensures uses { made result (λ b. Decides b (Uses (state_of held self.now) person permission)) }
+        ensures answer { result ≡ answered (may_refusal (state_of R.held self.now) person permission) (may_use (state_of R.held self.now) person permission) }
+        ensures uses { IfOk result (λ b. Decides b (Uses (state_of R.held self.now) person permission)) }
     {
         if person == 0 || person > self.table.persons {
             return Err(Refusal::BadRow);
@@ -25,8 +25,8 @@ impl<R: Roster> Register<R> {
     }
 
     fn may_use(&self, person: u32, permission: u32) -> bool
-        ensures test { result ≡ may_use (state_of held self.now) person permission }
-        ensures uses { Decides result (Uses (state_of held self.now) person permission) }
+        ensures test { result ≡ may_use (state_of R.held self.now) person permission }
+        ensures uses { Decides result (Uses (state_of R.held self.now) person permission) }
     {
         let slot = self.slot_now();
         let usable = self.mask(person, slot) & self.mask(ENABLED_ROW, slot);

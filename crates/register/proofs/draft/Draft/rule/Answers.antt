@@ -1,10 +1,9 @@
 use Rattle.std.proofs.Common.{length, ap, ◌∙◌}
 use Rattle.policy.specs.declared.table.PolicyTable.{PolicyTable}
 use Rattle.policy.specs.Tables.{policy_of}
-use Rattle.model.specs.Drafts.{DraftState, draft_refusal, drafted_by}
+use Rattle.model.specs.Drafts.{draft_refusal, drafted_by}
 use Rattle.register.specs.Memory.{draft_of}
 use Rattle.model.specs.declared.call.DraftCall.TheVariants.{Rule}
-use Rattle.register.specs.declared.draft.Draft.{Draft}
 use Rattle.model.proofs.Refused.{stays}
 use Rattle.register.proofs.draft.Draft.rule.Goals as goal
 

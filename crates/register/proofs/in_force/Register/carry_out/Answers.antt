@@ -1,4 +1,4 @@
-use Rattle.std.proofs.Common.{◌≡◌, ◌<◌, Option, sym, ap, ◌∙◌, arith}
+use Rattle.std.proofs.Common.{◌<◌, Option, sym, ap, ◌∙◌, arith}
 use Rattle.std.specs.List.{slice_get}
 use Rattle.policy.specs.Kinds.{adds}
 use Rattle.policy.specs.Refusals.{answered}
@@ -6,7 +6,6 @@ use Rattle.policy.specs.Tables.{policy_of}
 use Rattle.policy.specs.declared.refusal.Refusal.{Refusal}
 use Rattle.policy.proofs.Policies.{kept_by}
 use Rattle.roster.specs.Holdings.{Held}
-use Rattle.model.specs.States.{State}
 use Rattle.register.specs.Memory.{state_of, of_roles}
 use Rattle.model.proofs.Acting.{goes, goes_held}
 use Rattle.model.proofs.Allowing.{allowed_if}

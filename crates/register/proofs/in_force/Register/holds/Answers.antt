@@ -1,4 +1,4 @@
-use Rattle.std.proofs.Common.{◌≡◌, ℕ, ap, ◌∙◌}
+use Rattle.std.proofs.Common.{ℕ, ap, ◌∙◌}
 use Rattle.policy.specs.Masks.{bit}
 use Rattle.register.proofs.OfRoles.{bit_of_roles}
 use Rattle.register.proofs.in_force.Register.holds.Goals as goal

@@ -1,4 +1,4 @@
-use Rattle.std.proofs.Common.{◌≡◌, ◌<◌, sym, ap, ◌∙◌, arith}
+use Rattle.std.proofs.Common.{sym, ◌∙◌}
 use Rattle.model.specs.Acts.{meets_at}
 use Rattle.register.specs.Memory.{state_of}
 use Rattle.model.proofs.Every.{every_more, every_fails}
