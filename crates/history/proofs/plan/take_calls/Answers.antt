@@ -1,4 +1,4 @@
-use Rattle.std.proofs.Common.{◌≡◌, ◌++◌, vec_items, refl, ap, ◌∙◌, arith}
+use Rattle.std.proofs.Common.{◌++◌, vec_items, refl, ap, arith}
 use Rattle.model.specs.Calls.{answer_to, next, run}
 use Rattle.register.specs.Memory.{state_of}
 use Rattle.model.specs.declared.call.Call.TheVariants.{Tick}
@@ -8,7 +8,7 @@ use Rattle.history.proofs.plan.take_calls.Goals as goal
 
 pub loop-call-init : goal.loop-call-init
 loop-call-init g c =
-    let empty = c.in-ok-answers.ensures in
+    let empty = c.in_ok-answers.ensures in
     (ap (λ xs. xs ++ answers_to c.args.calls.now (state_of g.R.Roster.held c.args.register.now)) empty.items, refl, empty.len, empty.capacity)
 
 pub loop-call-preserved : goal.loop-call-preserved
