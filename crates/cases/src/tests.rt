@@ -25,7 +25,10 @@ fn expect(rt: &impl Abort, heap: Global, text: &[u8], printed: &[u8]) -> Result<
 fn expect_refused(rt: &impl Abort, text: &[u8], out: &mut [u8], number: u32) -> Result<(), Fail> {
     match answer(Grid::new(), text, out) {
         Ok(_) => Err(Fail::new("answered")),
-        Err(refusal) => check_eq(refusal.number(), number),
+        Err(refusal) => {
+            assert_eq!(rt; refusal.number(), number);
+            Ok(())
+        }
     }?;
     for byte in out.iter() {
         assert!(rt; *byte == 7);

@@ -47,7 +47,7 @@ fn stands_under_a_register(rt: HostRuntime) -> Result<(), Fail> {
         &mut out,
     ) {
         Ok(written) => {
-            assert!(rt; &out[0..written] == b"ok\nok\nok\nok\nok\nmay 0\nok\nmay 1\n");
+            assert!(rt; &out[0..written] == b"ok\nok\nok\nok\nok\nmay 0\nok\nmay 1\n".as_slice());
             Ok(())
         },
         Err(_) => Err(Fail::new("refused")),
