@@ -6,9 +6,9 @@
 PLAN = crates/duty/stdin
 
 run:
-	@mkdir -p target && rt check duty > target/run.log 2>&1 || { tail -n 30 target/run.log; exit 1; }
-	@tail -n 2 target/run.log
-	@target/bin/duty < $(PLAN) | paste -d '|' $(PLAN) - | awk -F '|' '{ printf "%-24s | %s\n", $$1, $$2 }'
+	@mkdir -p target && (cd crates/duty && rt run < stdin) > target/run.log 2>&1 || { tail -n 30 target/run.log; exit 1; }
+	@grep '^logic=' target/run.log | tail -n 1
+	@crates/duty/out/duty < $(PLAN) | paste -d '|' $(PLAN) - | awk -F '|' '{ printf "%-24s | %s\n", $$1, $$2 }'
 
 test:
 	@.ci/run
