@@ -4,6 +4,6 @@ pub mod ActsTolls
 pub mod GradeTolls
 pub mod ClockTolls
 pub mod Walks
-pub mod ValuesLemmas
-pub mod Numbered
 pub mod Next
+pub mod Numbered
+pub mod ValuesLemmas
