@@ -33,14 +33,9 @@ impl Case {
 
     // Takes one line of the table.
     fn push(&mut self, line: &str) -> anyhow::Result<()> {
-        let (call, outcome) = match line.split_once(" | ") {
-            Some(parts) => parts,
-            None => (line, "ok"),
-        };
-        self.plan.push_str(call)?;
-        self.plan.push_str("\n")?;
-        self.printed.push_str(outcome)?;
-        self.printed.push_str("\n")?;
+        let (call, outcome) = line.split_once(" | ").unwrap_or((line, "ok"));
+        writeln!(self.plan, "{call}")?;
+        writeln!(self.printed, "{outcome}")?;
         self.lines = self.lines.saturating_add(1);
         Ok(())
     }
@@ -50,15 +45,15 @@ impl Case {
         let plan = self.plan.as_bytes();
         let room = plan.len().saturating_mul(OUTPUT_PER_BYTE);
         let mut out = vec![in heap; 0u8; room]?;
-        match answer(roster, plan, &mut out) {
-            Ok(written) => Ok(&out[0..written] == self.printed.as_bytes()),
-            Err(_) => Ok(false),
-        }
+        let Ok(written) = answer(roster, plan, &mut out) else {
+            return Ok(false);
+        };
+        Ok(&out[..written] == self.printed.as_bytes())
     }
 }
 
 // How many lines and plans were as they must be, and how many plans were not.
-#[derive(Clone, Copy)]
+#[derive(Debug, Clone, Copy, PartialEq, Eq, Default)]
 struct Tally {
     lines: u32,
     plans: u32,
@@ -77,8 +72,7 @@ impl Tally {
             self.plans = self.plans.saturating_add(1);
         } else {
             self.wrong = self.wrong.saturating_add(1);
-            let plan = case.plan.as_str();
-            println!(rt; "not as it must be:\n{plan}")?;
+            println!(rt; "not as it must be:\n{}", case.plan)?;
         }
         Ok(())
     }
@@ -88,11 +82,7 @@ fn run(rt: &HostRuntime) -> anyhow::Result<Tally> {
     let heap = rt.alloc();
     let mut table = String::new(heap);
     rt.stdin().read_to_string(&mut table)?;
-    let mut tally = Tally {
-        lines: 0,
-        plans: 0,
-        wrong: 0,
-    };
+    let mut tally = Tally::default();
     let mut case = Case::new(heap);
     for line in table.as_str().lines() {
         if line.is_empty() {
@@ -114,19 +104,16 @@ fn clock_ends() -> bool {
             return false;
         }
     }
-    match register.tick() {
-        Ok(()) => false,
-        Err(refusal) => refusal.number() == 32,
-    }
+    register.tick().is_err_and(|refusal| refusal.number() == 32)
 }
 
 fn main(rt: HostRuntime) -> anyhow::Result<()> {
-    let tally = run(&rt)?;
-    let lines = tally.lines;
-    let plans = tally.plans;
-    let wrong = tally.wrong;
+    let Tally {
+        lines,
+        plans,
+        wrong,
+    } = run(&rt)?;
     println!(rt; "{lines} lines in {plans} plans as they must be, {wrong} plans not")?;
-    let ends = clock_ends();
-    println!(rt; "the clock ends where it must: {ends}")?;
+    println!(rt; "the clock ends where it must: {}", clock_ends())?;
     Ok(())
 }

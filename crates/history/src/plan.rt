@@ -1,10 +1,10 @@
 ghost use Rattle.std.specs.Prelude.{◌≡◌, IfOk, OnErr, OnOk};
-ghost use Rattle.model.specs.Calls.{run};
-ghost use Rattle.model.specs.Drafts.{new_draft, drafted};
+ghost use Rattle.model.specs.Drafts.{new_draft};
+ghost use Rattle.model.specs.Runs.{after_all, answers_along};
 ghost use Rattle.history.specs.Histories.{draft_answers, answers_to, forced, history};
-ghost use Rattle.register.specs.Memory.{draft_of, state_of};
+ghost use Rattle.register.specs.Memory.{state_of};
 
-use crate::take::{take_call, take_draft_call};
+use crate::take::TakesCalls;
 use model::call::{Answer, Call, DraftCall};
 use policy::refusal::Refusal;
 use register::draft::Draft;
@@ -14,7 +14,7 @@ use std::alloc::{AllocError, Global};
 
 // What a plan came to: the register, and the answer to every call.
 #[derive(Drop)]
-pub struct Outcome<R> {
+pub struct Outcome<R: Roster> {
     pub register: Register<R>,
     pub drafted: Vec<Result<(), Refusal>>,
     pub answers: Vec<Result<Answer, Refusal>>,
@@ -27,14 +27,17 @@ pub fn execute<R: Roster + Drop>(
     draft_calls: &[DraftCall],
     calls: &[Call],
 ) -> Result<Outcome<R>, AllocError>
-    ensures state { IfOk result (λ outcome. state_of R.held outcome.register ≡ history draft_calls.now calls.now) }
-    ensures drafted { IfOk result (λ outcome. outcome.drafted.items ≡ draft_answers draft_calls.now new_draft) }
-    ensures answers { IfOk result (λ outcome. outcome.answers.items ≡ answers_to calls.now (forced draft_calls.now)) }
+    ensures state { IfOk result (λ outcome. state_of outcome.register
+        ≡ history draft_calls.now calls.now) }
+    ensures drafted { IfOk result (λ outcome. outcome.drafted.items
+        ≡ draft_answers draft_calls.now new_draft) }
+    ensures answers { IfOk result (λ outcome. outcome.answers.items
+        ≡ answers_to calls.now (forced draft_calls.now)) }
 {
     let mut draft = Draft::begin(roster);
-    let drafted = take_draft_calls(&mut draft, heap, draft_calls)?;
+    let drafted = take_all(&mut draft, heap, draft_calls)?;
     let mut register = draft.force();
-    let answers = take_calls(&mut register, heap, calls)?;
+    let answers = take_all(&mut register, heap, calls)?;
     Ok(Outcome {
         register,
         drafted,
@@ -42,36 +45,21 @@ pub fn execute<R: Roster + Drop>(
     })
 }
 
-// Takes draft calls one after the other, some refused, and answers each. Without memory for the answers it takes none.
-fn take_draft_calls<R: Roster>(
-    draft: &mut Draft<R>,
+// Takes calls one after the other, some refused, and answers each. Without memory for the answers it takes none.
+fn take_all<M: TakesCalls>(
+    taker: &mut M,
     heap: Global,
-    calls: &[DraftCall],
-) -> Result<Vec<Result<(), Refusal>>, AllocError>
-    ensures answer { IfOk result (λ answers. answers.items ≡ draft_answers calls.now (draft_of R.held draft.old)) }
-    ensures after { OnOk result (draft_of R.held draft.new ≡ drafted calls.now (draft_of R.held draft.old)) }
-    ensures kept { OnErr result (draft.new ≡ draft.old) }
+    calls: &[M::Call],
+) -> Result<Vec<Result<M::Answer, Refusal>>, AllocError>
+    ensures answer { IfOk result (λ answers. answers.items
+        ≡ answers_along M.answer M.next calls.now (M.state taker.old)) }
+    ensures after { OnOk result (M.state taker.new
+        ≡ after_all M.next calls.now (M.state taker.old)) }
+    ensures kept { OnErr result (taker.new ≡ taker.old) }
 {
     let mut answers = Vec::with_capacity(heap, calls.len())?;
     for call in calls {
-        answers.push_reserved(take_draft_call(draft, *call));
-    }
-    Ok(answers)
-}
-
-// Takes calls in force one after the other, some refused, and answers each. Without memory for the answers it takes none.
-fn take_calls<R: Roster>(
-    register: &mut Register<R>,
-    heap: Global,
-    calls: &[Call],
-) -> Result<Vec<Result<Answer, Refusal>>, AllocError>
-    ensures answer { IfOk result (λ answers. answers.items ≡ answers_to calls.now (state_of R.held register.old)) }
-    ensures after { OnOk result (state_of R.held register.new ≡ run calls.now (state_of R.held register.old)) }
-    ensures kept { OnErr result (register.new ≡ register.old) }
-{
-    let mut answers = Vec::with_capacity(heap, calls.len())?;
-    for call in calls {
-        answers.push_reserved(take_call(register, *call));
+        answers.push_reserved(taker.take(*call));
     }
     Ok(answers)
 }

@@ -1,8 +1,5 @@
-ghost use Rattle.std.specs.Prelude.{◌≡◌, OnErr};
-ghost use Rattle.policy.specs.Refusals.{answered, mapped_ok};
-ghost use Rattle.model.specs.Calls.{answer_to, next};
-ghost use Rattle.model.specs.Drafts.{draft_refusal, next_draft};
-ghost use Rattle.register.specs.Memory.{draft_of, state_of};
+ghost use Rattle.std.specs.Prelude.{◌≡◌, OnErr, Result};
+ghost use Rattle.policy.specs.declared.refusal.Refusal.{Refusal};
 
 use model::call::{Answer, Call, DraftCall};
 use policy::refusal::Refusal;
@@ -10,58 +7,88 @@ use register::draft::Draft;
 use register::in_force::Register;
 use roster::traits::Roster;
 
-// Has a draft take a call that is given as a value.
-pub fn take_draft_call<R: Roster>(draft: &mut Draft<R>, call: DraftCall) -> Result<(), Refusal>
-    ensures answer { result ≡ answered (draft_refusal call (draft_of R.held draft.old)) tt }
-    ensures after { draft_of R.held draft.new ≡ next_draft call (draft_of R.held draft.old) }
-    ensures kept { OnErr result (draft.new ≡ draft.old) }
-{
-    match call {
-        DraftCall::Size {
-            roles,
-            slots,
-            persons,
-        } => draft.size(roles, slots, persons),
-        DraftCall::Put {
-            row,
-            role,
-            schedule,
-        } => draft.put(row, role, schedule),
-        DraftCall::Perm { permission, mask } => draft.perm(permission, mask),
-        DraftCall::Rule(proposed) => match draft.rule(proposed) {
-            Ok(_) => Ok(()),
-            Err(refusal) => Err(refusal),
-        },
+// What takes calls that are given as values, one after the other, and answers each: a draft, or a register in force. A call
+// is data with numbers of its own, so it is matched; a closure in its place would hide what was called from the contracts.
+pub trait TakesCalls {
+    type Call: Copy;
+
+    type Answer;
+
+    // What it stands for: what it answers to a call, and what it stands for next, follow from that alone.
+    ghost State: { Type 0 };
+
+    ghost state: { Self → State };
+
+    ghost answer: { Self.Call → State → Result Self.Answer Refusal };
+
+    ghost next: { Self.Call → State → State };
+
+    // Takes one call.
+    fn take(&mut self, call: Self::Call) -> Result<Self::Answer, Refusal>
+        ensures answer { result ≡ answer call (state self.old) }
+        ensures after { state self.new ≡ next call (state self.old) }
+        ensures kept { OnErr result (self.new ≡ self.old) };
+}
+
+impl<R: Roster> TakesCalls for Draft<R> {
+    ghost use Rattle.model.specs.Drafts.{DraftState, draft_answer, next_draft};
+    ghost use Rattle.register.specs.Memory.{draft_of};
+
+    type Call = DraftCall;
+
+    type Answer = ();
+
+    ghost State = { DraftState };
+
+    ghost state = { draft_of };
+
+    ghost answer = { draft_answer };
+
+    ghost next = { next_draft };
+
+    fn take(&mut self, call: DraftCall) -> Result<(), Refusal> {
+        match call {
+            DraftCall::Size {
+                roles,
+                slots,
+                persons,
+            } => self.size(roles, slots, persons),
+            DraftCall::Put {
+                row,
+                role,
+                schedule,
+            } => self.put(row, role, schedule),
+            DraftCall::Perm { permission, mask } => self.perm(permission, mask),
+            DraftCall::Rule(proposed) => self.rule(proposed).map(|_| ()),
+        }
     }
 }
 
-// Has a register in force take a call that is given as a value.
-pub fn take_call<R: Roster>(register: &mut Register<R>, call: Call) -> Result<Answer, Refusal>
-    ensures answer { result ≡ answer_to call (state_of R.held register.old) }
-    ensures after { state_of R.held register.new ≡ next call (state_of R.held register.old) }
-    ensures kept { OnErr result (register.new ≡ register.old) }
-{
-    match call {
-        Call::Tick => done(register.tick()),
-        Call::Act {
-            rule,
-            officer,
-            target,
-            part,
-        } => done(register.act(rule, officer, target, part)),
-        Call::May { person, permission } => match register.may(person, permission) {
-            Ok(may) => Ok(Answer::MayUse(may)),
-            Err(refusal) => Err(refusal),
-        },
-    }
-}
+impl<R: Roster> TakesCalls for Register<R> {
+    ghost use Rattle.model.specs.Calls.{answer_to, next};
+    ghost use Rattle.model.specs.States.{State};
+    ghost use Rattle.register.specs.Memory.{state_of};
 
-// The answer to a call that answers nothing but whether it was accepted.
-fn done(outcome: Result<(), Refusal>) -> Result<Answer, Refusal>
-    ensures { result ≡ mapped_ok (λ _. Answer.Done) outcome }
-{
-    match outcome {
-        Ok(()) => Ok(Answer::Done),
-        Err(refusal) => Err(refusal),
+    type Call = Call;
+
+    type Answer = Answer;
+
+    ghost State = { State };
+
+    ghost state = { state_of };
+
+    ghost answer = { answer_to };
+
+    ghost next = { next };
+
+    fn take(&mut self, call: Call) -> Result<Answer, Refusal> {
+        match call {
+            Call::Tick => self.tick()?,
+            Call::Act(act) => self.act(act)?,
+            Call::May { person, permission } => {
+                return self.may(person, permission).map(Answer::MayUse);
+            }
+        }
+        Ok(Answer::Done)
     }
 }

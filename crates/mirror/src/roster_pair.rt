@@ -25,7 +25,8 @@ impl<A: Roster, B: Roster> Mirror<A, B> {
 
     // Whether both rosters answer the same for the row in the slot.
     pub fn agree(&self, row: u32, slot: u32) -> bool
-        ensures { result ≡ (mask (A.Roster.held self.now.first) row slot == mask (B.Roster.held self.now.second) row slot) }
+        ensures { result ≡ (mask (A.Roster.held self.now.first) row slot == mask
+            (B.Roster.held self.now.second) row slot) }
     {
         self.first.mask(row, slot) == self.second.mask(row, slot)
     }

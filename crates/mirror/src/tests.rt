@@ -41,15 +41,11 @@ fn both_take_every_change(rt: HostRuntime) {
 fn stands_under_a_register(rt: HostRuntime) -> Result<(), Fail> {
     let plan = b"size 1 2 1\nput 0 0 2\nput 1 0 3\nperm 0 1\nforce\nmay 1 0\ntick\nmay 1 0\n";
     let mut out = vec![in rt.alloc(); 0u8; 1000]?;
-    match answer(
-        Mirror::new(Grid::new(), ScheduleBook::new()),
-        plan,
-        &mut out,
-    ) {
-        Ok(written) => {
-            assert!(rt; &out[0..written] == b"ok\nok\nok\nok\nok\nmay 0\nok\nmay 1\n".as_slice());
-            Ok(())
-        },
-        Err(_) => Err(Fail::new("refused")),
-    }
+    let mirror = Mirror::new(Grid::new(), ScheduleBook::new());
+    let written = answer(mirror, plan, &mut out)?;
+    assert_eq!(rt;
+        &out[..written],
+        b"ok\nok\nok\nok\nok\nmay 0\nok\nmay 1\n".as_slice()
+    );
+    Ok(())
 }

@@ -1,29 +1,23 @@
--- Tests of every number below a limit. Assumes nothing.
-use Rattle.std.proofs.Common.{◌≡◌, ℕ, zero, suc, ◌+◌, ◌<◌, Bool, true, false, ◌&&◌, sym, refl, ap, ◌∙◌, ⊎_elim, add-one, arith}
+-- Tests of every number of a range. Assumes nothing.
+use Rattle.std.proofs.Common.{◌≡◌, ℕ, zero, suc, ◌+◌, ◌<◌, ◌≤◌, Bool, true, refl, ap, ◌∙◌, ⊎_elim, arith}
+use Rattle.std.specs.List.{list_all, range_with_len}
 use Rattle.std.proofs.lemmas.Bool.{cases_eq, and_parts, and_from}
-use Rattle.model.specs.Acts.{every}
 
--- a test that fails below n
-pub every_fails : (n : ℕ) (test : ℕ → Bool) (k : ℕ) → k < n → test k ≡ false → false ≡ every n test
-every_fails zero test k h e = absurd (omega arith)
-every_fails (suc n) test k h e =
-    ⊎_elim (λ same. sym (ap (λ (b : Bool). b && every n test) (sym (ap test same) ∙ e)))
-    (λ ne. every_fails n test k (omega arith) e ∙ sym (right (test n) (every n test) (sym (every_fails n test k (omega arith) e))) ∙ refl) (cases_eq k n)
-  where
-    right : (x y : Bool) → y ≡ false → (x && y) ≡ y
-    right true y h = refl
-    right false y h = sym h
+module _ (test : ℕ → Bool) where
+  holds_from : (a n : ℕ) → list_all test (range_with_len a n) ≡ true → (k : ℕ) → a ≤ k → k < a + n → test k ≡ true
+  holds_from a zero e k low h = absurd (omega arith)
+  holds_from a (suc n) e k low h =
+      let parts = and_parts (test a) (list_all test (range_with_len (a + 1) n)) e in
+      ⊎_elim (λ same. ap test same ∙ parts.0) (λ ne. holds_from (a + 1) n parts.1 k (omega arith) (omega arith)) (cases_eq k a)
 
-pub every_more : (n : ℕ) (test : ℕ → Bool) → test n ≡ true → every n test ≡ true → every (n + 1) test ≡ true
-every_more n test e h = rw add-one (and_from (test n) (every n test) e h)
+  passes_from : (a n : ℕ) → ((k : ℕ) → k < a + n → test k ≡ true) → list_all test (range_with_len a n) ≡ true
+  passes_from a zero each = refl
+  passes_from a (suc n) each =
+      and_from (test a) (list_all test (range_with_len (a + 1) n)) (each a (omega arith)) (passes_from (a + 1) n (λ k h. each k (omega arith)))
 
--- every test below n holds where they all do
-pub every_holds : (n : ℕ) (test : ℕ → Bool) → every n test ≡ true → (k : ℕ) → k < n → test k ≡ true
-every_holds zero test e k h = absurd (omega arith)
-every_holds (suc n) test e k h =
-    let parts = and_parts (test n) (every n test) e in
-    ⊎_elim (λ same. ap test same ∙ parts.0) (λ ne. every_holds n test parts.1 k (omega arith)) (cases_eq k n)
+  -- every test holds where they all do
+  pub every_holds : (n : ℕ) → list_all test (range_with_len 0 n) ≡ true → (k : ℕ) → k < n → test k ≡ true
+  every_holds n e k h = holds_from 0 n e k (omega arith) (omega arith)
 
-pub every_from : (n : ℕ) (test : ℕ → Bool) → ((k : ℕ) → k < n → test k ≡ true) → every n test ≡ true
-every_from zero test each = refl
-every_from (suc n) test each = and_from (test n) (every n test) (each n (omega arith)) (every_from n test (λ k h. each k (omega arith)))
+  pub every_from : (n : ℕ) → ((k : ℕ) → k < n → test k ≡ true) → list_all test (range_with_len 0 n) ≡ true
+  every_from n each = passes_from 0 n (λ k h. each k (omega arith))

@@ -1,5 +1,6 @@
 pub mod Refused
 pub mod Every
+pub mod Within
 pub mod Acting
 pub mod WellFormed
 pub mod Allowing

@@ -1,7 +1,7 @@
 -- What a refusal leaves. Assumes nothing.
-use Rattle.std.proofs.Common.{◌≡◌, IfErr, Some, None, Ok, Err, Option, Result, refl}
+use Rattle.std.proofs.Common.{◌≡◌, Some, None, Err, Option, refl, ap}
 use Rattle.std.proofs.lemmas.Bool.{true≢false}
-use Rattle.policy.specs.Refusals.{answered, mapped_ok}
+use Rattle.policy.specs.Refusals.{answered}
 use Rattle.policy.specs.declared.refusal.Refusal.{Refusal}
 use Rattle.model.specs.Drafts.{unless_refused}
 
@@ -10,12 +10,7 @@ pub stays : {X Y : Type 0} (found : Option Refusal) (y : Y) (refusal : Refusal) 
 stays None y refusal new old e = absurd (true≢false (cc))
 stays (Some other) y refusal new old e = refl
 
--- the same refusal, and another value where there is none
-pub mapped_answer : {X Y : Type 0} (found : Option Refusal) (f : X → Y) (x : X) → mapped_ok f (answered found x) ≡ answered found (f x)
-mapped_answer None f x = refl
-mapped_answer (Some refusal) f x = refl
-
--- what holds where it is refused still does
-pub mapped_refused : {X Y : Type 0} (r : Result X Refusal) (f : X → Y) (P : Refusal → Type 0) → IfErr r P → IfErr (mapped_ok f r) P
-mapped_refused (Ok x) f P h = tt
-mapped_refused (Err refusal) f P h = h
+-- the same refusal, whatever is answered where there is none
+pub refused_so : {X Y : Type 0} (found : Option Refusal) (x : X) (y : Y) (refusal : Refusal) → Err refusal ≡ answered found x → Err refusal ≡ answered found y
+refused_so None x y refusal e = absurd (true≢false (cc))
+refused_so (Some other) x y refusal e = ap Err (let f = e in cc)

@@ -1,11 +1,12 @@
--- What every register in memory keeps, so that theorems about states owe no hypothesis. Assumes nothing.
-use Rattle.std.proofs.Common.{◌≡◌, ℕ, ◌<◌, ◌≤◌, Bool, true, false, refl, ◌∙◌, ⊎_elim, arith}
+-- What the state of every register in memory keeps. Assumes nothing.
+use Rattle.std.proofs.Common.{◌≡◌, ℕ, ◌≤◌, Bool, true, false, refl, ◌∙◌, ⊎_elim, arith}
 use Rattle.std.proofs.lemmas.Bool.{cases_lt}
 use Rattle.policy.specs.Masks.{bit}
 use Rattle.policy.specs.Policies.{AllProper, MasksFit}
 use Rattle.policy.proofs.Bits.{bit_past}
 use Rattle.roster.specs.Holdings.{mask}
 use Rattle.roster.proofs.Masks.{mask_below, bit_mask}
+use Rattle.model.specs.Held.{WithinRoles}
 use Rattle.model.specs.States.{State, last_tick}
 
 pub record WellFormed (st : State) : Type 0 where
@@ -16,7 +17,7 @@ pub record WellFormed (st : State) : Type 0 where
   pub rules : AllProper st.policy.roles st.policy.slots st.policy.rules
   pub permissions : MasksFit st.policy.roles st.policy.permissions
   pub clock : st.clock ≤ last_tick
-  pub held : (row slot role : ℕ) → st.held row slot role ≡ true → role < st.policy.roles
+  pub held : WithinRoles st.policy.roles st.held
 
 not_true_false : (b : Bool) → (b ≡ true → ⊥) → false ≡ b
 not_true_false true h = absurd (h refl)

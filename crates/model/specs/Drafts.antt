@@ -1,10 +1,11 @@
 -- A draft: its calls, their refusals in order, and what each makes of it. Assumes nothing.
-use Rattle.std.specs.Prelude.{Bool, true, false, List, [], ◌∷◌, Some, None, Option, nat_le, nat_lt}
+use Rattle.std.specs.Prelude.{Bool, true, false, List, [], ◌∷◌, Some, None, Option, Result, nat_le, nat_lt}
 use Rattle.policy.specs.Policies.{Policy, blank, with_permission, with_proposed, schedule_fits, size_tests, permission_tests, rule_tests}
-use Rattle.policy.specs.Refusals.{Test, first_failing}
+use Rattle.policy.specs.Refusals.{Test, answered, first_failing}
 use Rattle.policy.specs.declared.refusal.Refusal.{Refusal}
 use Rattle.policy.specs.declared.refusal.Refusal.TheVariants.{SizeTooLate, BadRow, RoleOutOfRange, BadSchedule}
 use Rattle.roster.specs.Holdings.{Held, nothing, altered}
+use Rattle.model.specs.Runs.{after_all}
 use Rattle.model.specs.declared.call.DraftCall.{DraftCall}
 use Rattle.model.specs.declared.call.DraftCall.TheVariants.{Size, Put, Perm, Rule}
 
@@ -33,6 +34,10 @@ draft_tests (Rule proposed) d = rule_tests d.policy proposed
 abbrev pub draft_refusal : DraftCall → DraftState → Option Refusal
 draft_refusal call d = first_failing (draft_tests call d)
 
+-- what a draft answers to a call, but for the number of a rule
+abbrev pub draft_answer : DraftCall → DraftState → Result (Unit {0}) Refusal
+draft_answer call d = answered (draft_refusal call d) tt
+
 -- what an accepted call makes of the draft; size comes before any put, perm and rule, so it begins anew
 abbrev pub drafted_by : DraftCall → DraftState → DraftState
 drafted_by (Size roles slots persons) d = record { policy = blank roles slots persons; held = nothing; fresh = true }
@@ -50,5 +55,4 @@ next_draft call d = unless_refused (draft_refusal call d) (drafted_by call d) d
 
 -- a draft after a list of calls
 abbrev pub drafted : List DraftCall → DraftState → DraftState
-drafted [] d = d
-drafted (call ∷ calls) d = drafted calls (next_draft call d)
+drafted calls d = after_all next_draft calls d

@@ -1,3 +1,5 @@
+pub mod Runs
+pub mod Held
 pub mod Drafts
 pub mod States
 pub mod Acts

@@ -1,7 +1,7 @@
 use policy::rule::ProposedRule;
 
 // A call that a draft takes.
-#[derive(Clone, Copy)]
+#[derive(Debug, Clone, Copy, PartialEq, Eq)]
 pub enum DraftCall {
     Size {
         roles: u32,
@@ -20,24 +20,26 @@ pub enum DraftCall {
     Rule(ProposedRule),
 }
 
+// An act of an officer: by which rule, on which target row, for which part of the slots. Its four numbers always go together;
+// calls with two or three take them as they are.
+#[derive(Debug, Clone, Copy, PartialEq, Eq)]
+pub struct OfficerAct {
+    pub rule: u32,
+    pub officer: u32,
+    pub target: u32,
+    pub part: u32,
+}
+
 // A call that a register in force takes.
-#[derive(Clone, Copy)]
+#[derive(Debug, Clone, Copy, PartialEq, Eq)]
 pub enum Call {
     Tick,
-    Act {
-        rule: u32,
-        officer: u32,
-        target: u32,
-        part: u32,
-    },
-    May {
-        person: u32,
-        permission: u32,
-    },
+    Act(OfficerAct),
+    May { person: u32, permission: u32 },
 }
 
 // What a register in force answers to a call that it accepts.
-#[derive(Clone, Copy)]
+#[derive(Debug, Clone, Copy, PartialEq, Eq)]
 pub enum Answer {
     Done,
     MayUse(bool),

@@ -1,9 +1,12 @@
 -- Laws of the bits of words. Assumes nothing.
-use Rattle.std.proofs.Common.{◌≡◌, ℕ, zero, suc, ◌+◌, ◌-◌, ◌*◌, ◌/◌, ◌%◌, ◌^◌, ◌<◌, ◌≤◌, Bool, true, false, cond, not, ◌&&◌, ◌||◌, eqb, ltb, ◌⊎◌, Decides, sym, refl, ap, ◌∙◌, ap₂, inl, inr, ⊎_elim, pow-suc, div-one, mul-div_cancel, arith}
+use Rattle.std.proofs.Common.{◌≡◌, ℕ, zero, suc, ◌+◌, ◌-◌, ◌*◌, ◌/◌, ◌%◌, ◌^◌, ◌<◌, ◌≤◌, Bool, true, false, cond, not, ◌&&◌, ◌||◌, eqb, ltb, ◌⊎◌, Decides, sym, refl, ap, ◌∙◌, ap₂, inl, inr, ⊎_elim, pow-suc, div-one, mul-div_cancel, pow_mono, w32, arith}
 use native.Mathlib.Nat.{pow-succ', div-div-eq-div-mul, mul-mod_left, mod-le}
+use Rattle.std.proofs.Math.Nat.{mod-eq_of_lt}
 use lib.Bits.{bit_and, bit_or, bit_xor, and_shr, and_mod, or_shr, or_mod, xor_shr, xor_mod, and_le_l}
+use Rattle.std.specs.Int.{bit_not}
 use Rattle.std.proofs.lemmas.Bool.{eqb-true, eqb-false, eq-eqb, ne_eqb, lt-ltb, le-ltb, cases_lt, true≢false, false≢true, and_parts, and_from}
-use Rattle.std.proofs.lemmas.Nat.{pow_pos, mod_below, div_below, le-div, div-add-mod', mod-mul-add, div-mul-add, and_mask}
+use Rattle.std.proofs.lemmas.Nat.Bits.{bit_at_not}
+use Rattle.std.proofs.lemmas.Nat.{one_shl, pow_pos, mod_below, div_below, le-div, div-add-mod', mod-mul-add, div-mul-add, and_mask}
 use Rattle.std.proofs.lemmas.Bool.Decides.{nat_tests}
 use Rattle.policy.specs.Masks.{bit, Inside, Apart, Shares, inside, apart, shares}
 
@@ -81,6 +84,10 @@ bit_pow (suc k) (suc i) =
     bit-suc (2 ^ suc k) i ∙ ap (λ (x : ℕ). bit x i) (ap (λ (x : ℕ). x / 2) (pow-suc 2 k) ∙ mul-div_cancel (2 ^ k) (omega arith))
     ∙ bit_pow k i ∙ eqb-suc i k
 
+-- the same word as a shift makes it
+pub bit_one_shifted : (k i : ℕ) → k < 32 → bit (1 * 2 ^ k % 2 ^ 32) i ≡ eqb i k
+bit_one_shifted k i h = ap (λ (one : ℕ). bit one i) (one_shl k 32 h) ∙ bit_pow k i
+
 half_below : (n m : ℕ) → m < 2 ^ suc n → m / 2 < 2 ^ n
 half_below n m h = div_below m 2 (2 ^ n) (omega arith) (omega (arith, pow-suc 2 n))
 
@@ -143,21 +150,55 @@ shifted_out w k =
     (λ h. ne_eqb (w / 2 ^ k) 0 (λ e. omega (arith, le-div 1 w (2 ^ k) (pow_pos k) (omega arith))) ∙ sym (le-ltb w (2 ^ k) h))
     (cases_lt w (2 ^ k))
 
--- one bit set, and cleared again
-or_one : (x y : Bool) → (x || y) ≡ cond y true x
-or_one true true = refl
-or_one true false = refl
-or_one false true = refl
-or_one false false = refl
+-- a word of 32 bits has none from 32 on
+pub bit_past_word : (w k : ℕ) → w < 2 ^ 32 → 32 ≤ k → bit w k ≡ false
+bit_past_word w k h l = bit_past 32 w k h l
+
+pub below_wide : (w k : ℕ) → w < 2 ^ 32 → 32 ≤ k → ltb w (2 ^ k) ≡ true
+below_wide w k h l = let wide : 2 ^ 32 ≤ 2 ^ k = pow_mono l in lt-ltb w (2 ^ k) (omega arith)
+
+-- a part set in a word, and cleared from it
+or_part : (x y : Bool) → (x || y) ≡ cond y true x
+or_part true true = refl
+or_part true false = refl
+or_part false true = refl
+or_part false false = refl
+
+pub bit_part_set : (word part i : ℕ) → bit (bit_or word part) i ≡ cond (bit part i) true (bit word i)
+bit_part_set word part i = bit-or word part i ∙ or_part (bit word i) (bit part i)
+
+and_not_part : (x y : Bool) → (x && not y) ≡ cond y false x
+and_not_part true true = refl
+and_not_part true false = refl
+and_not_part false true = refl
+and_not_part false false = refl
+
+turned : (d : ℕ) → d < 2 → eqb (1 - d) 1 ≡ not (eqb d 1)
+turned d h = grind (arith, nat_tests)
+
+bit_turned : (part i : ℕ) → part < 2 ^ 32 → i < 32 → bit (bit_not w32 part) i ≡ not (bit part i)
+unfolding bit
+bit_turned part i h l =
+    ap (λ (d : ℕ). eqb d 1) (bit_at_not w32 part i h l) ∙ turned (part / 2 ^ i % 2) (mod_below (part / 2 ^ i) 2 (omega arith))
+
+pub bit_part_cleared : (word part i : ℕ) → word < 2 ^ 32 → part < 2 ^ 32
+    → bit (bit_and word (bit_not w32 part)) i ≡ cond (bit part i) false (bit word i)
+bit_part_cleared word part i hw hp =
+    bit-and word (bit_not w32 part) i
+    ∙ ⊎_elim
+    (λ l. ap (λ (b : Bool). bit word i && b) (bit_turned part i hp l) ∙ and_not_part (bit word i) (bit part i))
+    (λ l. let past : bit word i ≡ false = bit_past 32 word i hw l in grind (arith, nat_tests))
+    (cases_lt i 32)
+
+-- one bit set in a word, and cleared again
+pub bit_set : (m k i : ℕ) → bit (bit_or m (2 ^ k)) i ≡ cond (eqb i k) true (bit m i)
+bit_set m k i = bit_part_set m (2 ^ k) i ∙ ap (λ (b : Bool). cond b true (bit m i)) (bit_pow k i)
 
 cleared_one : (x y : Bool) → differs (x || y) y ≡ cond y false x
 cleared_one true true = refl
 cleared_one true false = refl
 cleared_one false true = refl
 cleared_one false false = refl
-
-pub bit_set : (m k i : ℕ) → bit (bit_or m (2 ^ k)) i ≡ cond (eqb i k) true (bit m i)
-bit_set m k i = bit-or m (2 ^ k) i ∙ ap (λ (y : Bool). bit m i || y) (bit_pow k i) ∙ or_one (bit m i) (eqb i k)
 
 pub bit_cleared : (m k i : ℕ) → bit (bit_xor (bit_or m (2 ^ k)) (2 ^ k)) i ≡ cond (eqb i k) false (bit m i)
 bit_cleared m k i =
@@ -182,6 +223,14 @@ pub bit_low : (m k i : ℕ) → bit (m % 2 ^ k) i ≡ (bit m i && ltb i k)
 bit_low m k i =
     ap (λ (x : ℕ). bit x i) (sym (and_mask m k)) ∙ bit-and m (2 ^ k - 1) i ∙ ap (λ (b : Bool). bit m i && b) (bit_ones k i)
 
+-- a word inside the word of all bits below k
+pub inside_ones : (k m : ℕ) → inside m (2 ^ k - 1) ≡ ltb m (2 ^ k)
+inside_ones k m =
+    ⊎_elim
+    (λ h. eq-eqb (bit_and m (2 ^ k - 1)) m (and_mask m k ∙ mod-eq_of_lt h) ∙ sym (lt-ltb m (2 ^ k) h))
+    (λ h. ne_eqb (bit_and m (2 ^ k - 1)) m (λ e. omega (arith, and_mask m k, mod_below m (2 ^ k) (pow_pos k))) ∙ sym (le-ltb m (2 ^ k) h))
+    (cases_lt m (2 ^ k))
+
 -- a word whose bits all lie below n
 pub below_from_bits : (n k m : ℕ) → m < 2 ^ n → ((i : ℕ) → bit m i ≡ true → i < k) → m < 2 ^ k
 below_from_bits n k m h low =
@@ -191,6 +240,12 @@ below_from_bits n k m h low =
     kept : (i : ℕ) (b : Bool) → bit m i ≡ b → (b && ltb i k) ≡ b
     kept i true e = lt-ltb i k (low i e)
     kept i false e = refl
+
+-- a word that has, from k on, the bits of a word below 2 ^ k, which are none
+pub below_from_same_bits : (n k m a : ℕ) → m < 2 ^ n → a < 2 ^ k → ((i : ℕ) → k ≤ i → bit m i ≡ bit a i) → m < 2 ^ k
+below_from_same_bits n k m a h l same =
+    below_from_bits n k m h
+    (λ i e. ⊎_elim (λ p. p) (λ p. absurd (false≢true (sym (same i p ∙ bit_past k a i l p) ∙ e))) (cases_lt i k))
 
 -- a word that is not 0 has a bit
 pub some_bit : (n m : ℕ) → m < 2 ^ n → (m ≡ 0 → ⊥) → (i : ℕ) × (bit m i ≡ true)
@@ -220,10 +275,10 @@ shares_decides n a b h = (found, told)
     told shared =
         ap not (ne_eqb (bit_and a b) 0 (λ e. false≢true (sym (ap (λ (x : ℕ). bit x shared.0) e ∙ bit_none shared.0) ∙ bit-and a b shared.0 ∙ and_from (bit a shared.0) (bit b shared.0) shared.1 shared.2)))
 
--- bit 0 of a shifted word
-pub bit_shifted : (m k : ℕ) → bit (m / 2 ^ k) 0 ≡ bit m k
+-- a bit as the shifted word shows it
+pub bit_read : (m k : ℕ) → eqb (bit_and (m / 2 ^ k) 1) 1 ≡ bit m k
 unfolding bit
-bit_shifted m k = ap (λ (x : ℕ). eqb (x % 2) 1) (div-one (m / 2 ^ k))
+bit_read m k = ap (λ (x : ℕ). eqb x 1) (and_mask (m / 2 ^ k) 1)
 
 -- a number has fewer bits than itself
 pub own_power : (n : ℕ) → n < 2 ^ n

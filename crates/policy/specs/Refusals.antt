@@ -1,5 +1,6 @@
 -- What each refusal is reported as. Assumes nothing.
-use Rattle.std.specs.Prelude.{ℕ, Bool, cond, List, [], ◌∷◌, Some, None, Ok, Err, Option, Result}
+use Rattle.std.specs.Prelude.{ℕ, Bool, List, [], ◌∷◌, ◌++◌, codes, if◌then◌else◌, Some, None, Ok, Err, Option, Result}
+use Rattle.std.specs.Fmt.{decimal}
 use Rattle.policy.specs.declared.refusal.Refusal.{Refusal}
 use Rattle.policy.specs.declared.refusal.Refusal.TheVariants.{SizeOutOfRange, SizeTooLate, UnknownKind, RoleOutOfRange, BadSchedule, NeedSharesBar, GradeTooHigh, BadRow, NoSuchPermission, OutsideRoleSchedule, BadLength, OtherToll, WatchOutOfRange, TooManyLines, BadMask, BadValue, TooManyRules, NoSuchRule, ClockAtEnd, OutsideRuleSchedule, OfficerLacksRole, RoleNotEnabled, NeedOrBarFails, ListedMaskCarries, PresentMaskNotListed, StepNotListed, TooManyRoles, TableTooShort, BufferTooShort, UnreadableLine, WrongStage, TextTooLong, OutputTooShort}
 
@@ -50,6 +51,10 @@ report WrongStage = plain 51
 report TextTooLong = plain 52
 report OutputTooShort = plain 53
 
+-- what is printed for a refusal
+abbrev pub refusal_text : Refusal → List ℕ
+refusal_text refusal = codes "refused " ++ decimal (report refusal).number
+
 -- a test, and the refusal where it fails
 abbrev pub Test : Type 0
 Test = Bool × Refusal
@@ -57,7 +62,7 @@ Test = Bool × Refusal
 -- the refusal of the first test that fails
 abbrev pub first_failing : List Test → Option Refusal
 first_failing [] = None
-first_failing (test ∷ tests) = cond test.0 (first_failing tests) (Some test.1)
+first_failing (test ∷ tests) = if test.0 then first_failing tests else Some test.1
 
 -- what a call answers that is refused so, or else answers x
 abbrev pub answered : {X : Type 0} → Option Refusal → X → Result X Refusal

@@ -4,8 +4,9 @@ ghost use Rattle.policy.specs.Kinds.{adds, changes};
 use crate::limits::ENABLED_ROW;
 
 // What a rule does with its role: enable or disable it for everybody, assign it to or revoke it from a person.
-#[derive(Clone, Copy)]
+#[derive(Debug, Clone, Copy, PartialEq, Eq, Default)]
 pub enum Kind {
+    #[default]
     Enable,
     Disable,
     Assign,

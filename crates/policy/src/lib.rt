@@ -5,7 +5,6 @@ pub mod limits;
 pub mod masks;
 pub mod refusal;
 pub mod rule;
-mod rule_methods;
+pub mod sizes;
 pub mod table;
-mod table_methods;
 pub mod watch;

@@ -1,5 +1,5 @@
 // What a survey or a certificate speaks of: whether that row carries that permission in that slot.
-#[derive(Clone, Copy)]
+#[derive(Debug, Clone, Copy, PartialEq, Eq)]
 pub struct Watch {
     pub row: u32,
     pub slot: u32,

@@ -1,4 +1,3 @@
-pub mod OfRoles
 pub mod InMemory
 pub mod Counting
 pub mod Filling

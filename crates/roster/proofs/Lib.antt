@@ -1,4 +1,3 @@
 pub mod Masks
-pub mod Holdings
 mod Tables
 mod Rows

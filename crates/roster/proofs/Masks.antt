@@ -1,22 +1,14 @@
 -- Sums of powers of two as words: their bits are the tests they were made of. Assumes nothing.
-use Rattle.std.proofs.Common.{◌≡◌, ℕ, zero, suc, ◌+◌, ◌*◌, ◌^◌, ◌<◌, Bool, true, false, cond, ◌||◌, eqb, sym, refl, ap, ◌∙◌, ⊎_elim, pow-suc, arith}
-use Rattle.std.proofs.lemmas.Bool.{eq-eqb, ne_eqb, eqb-true, cases_eq, cond-true, cond-false}
-use Rattle.std.proofs.lemmas.Nat.{or_shifted}
+use Rattle.std.proofs.Common.{◌≡◌, ℕ, zero, suc, ◌+◌, ◌^◌, ◌<◌, Bool, true, false, cond, eqb, sym, refl, ap, ◌∙◌, pow-suc, one-mul, arith}
+use Rattle.std.proofs.lemmas.Bool.{eqb-true, eqb-false, cond_both}
+use Rattle.std.specs.Int.Bits.{bit_or, or_shifted_r}
 use Rattle.policy.specs.Masks.{bit}
-use Rattle.policy.proofs.Bits.{bit-or, bit_pow, bit_past, same_bits}
+use Rattle.policy.proofs.Bits.{bit_set, bit_past, same_bits}
 use Rattle.roster.specs.Holdings.{Held, sum_of, mask}
 
 one_more : (n a : ℕ) (b : Bool) → a < 2 ^ n → a + cond b (2 ^ n) 0 < 2 ^ suc n
 one_more n a true h = omega (arith, pow-suc 2 n)
 one_more n a false h = omega (arith, pow-suc 2 n)
-
-or_first : (x y : Bool) → (x || y) ≡ cond x true y
-or_first true y = refl
-or_first false y = refl
-
-above : (x y : Bool) → (x ≡ true → y ≡ false) → y ≡ cond x false y
-above true y h = h refl
-above false y h = refl
 
 -- a sum over the i below n is a word of n bits
 pub sum_of_below : (n : ℕ) (test : ℕ → Bool) → sum_of n test < 2 ^ n
@@ -26,29 +18,24 @@ sum_of_below (suc n) test = one_more n (sum_of n test) (test n) (sum_of_below n 
 -- a word of n bits with 2 ^ n added or not
 added : (n a : ℕ) (b : Bool) (i : ℕ) → a < 2 ^ n → bit (a + cond b (2 ^ n) 0) i ≡ cond (eqb i n) b (bit a i)
 added n a true i h =
-    ap (λ (m : ℕ). bit m i) (omega (arith, or_shifted 1 n a h)) ∙ bit-or (1 * 2 ^ n) a i
-    ∙ ap (λ (x : Bool). x || bit a i) (ap (λ (m : ℕ). bit m i) (omega arith) ∙ bit_pow n i) ∙ or_first (eqb i n) (bit a i)
+    let joined : bit_or a (2 ^ n) ≡ 2 ^ n + a = simp one-mul at (or_shifted_r 1 n a h) in
+    ap (λ (m : ℕ). bit m i) (omega arith) ∙ bit_set a n i
 added n a false i h =
     ap (λ (m : ℕ). bit m i) (omega arith)
-    ∙ above (eqb i n) (bit a i) (λ e. bit_past n a i h (omega (arith, eqb-true i n e)))
+    ∙ cond_both (eqb i n) false (bit a i) (λ b. bit a i ≡ b) (λ e. bit_past n a i h (omega (arith, eqb-true i n e))) (λ e. refl)
 
 -- bit i of a sum over the i below n is the test at i
 pub bit_sum_of : (n : ℕ) (test : ℕ → Bool) (i : ℕ) → i < n → bit (sum_of n test) i ≡ test i
 bit_sum_of zero test i h = absurd (omega arith)
 bit_sum_of (suc n) test i h =
     added n (sum_of n test) (test n) i (sum_of_below n test)
-    ∙ ⊎_elim
-    (λ e. cond-true (eqb i n) _ _ (eq-eqb i n e) ∙ ap test (sym e))
-    (λ e. cond-false (eqb i n) _ _ (ne_eqb i n e) ∙ bit_sum_of n test i (omega arith)) (cases_eq i n)
+    ∙ cond_both (eqb i n) (test n) _ (λ b. b ≡ test i)
+    (λ e. ap test (sym (eqb-true i n e))) (λ e. bit_sum_of n test i (omega (arith, eqb-false i n e)))
 
 -- a word of n bits is the sum over any test that agrees with its bits
 pub is_sum_of : (n m : ℕ) (test : ℕ → Bool) → m < 2 ^ n → ((i : ℕ) → i < n → bit m i ≡ test i) → m ≡ sum_of n test
 is_sum_of n m test h bits =
     same_bits n m (sum_of n test) h (sum_of_below n test) (λ i l. bits i l ∙ sym (bit_sum_of n test i l))
-
--- a word of n bits is the sum over its bits
-pub sum_of_bits : (n m : ℕ) → m < 2 ^ n → sum_of n (bit m) ≡ m
-sum_of_bits n m h = sym (is_sum_of n m (bit m) h (λ i l. refl))
 
 -- tests that agree below n have the same sum
 pub same_sum_of : (n : ℕ) (f g : ℕ → Bool) → ((i : ℕ) → i < n → f i ≡ g i) → sum_of n f ≡ sum_of n g

@@ -1,3 +1,2 @@
 pub mod Holdings
-pub mod Grids
-pub mod Books
+pub mod Tables

@@ -1,7 +1,12 @@
-ghost use Rattle.std.specs.Prelude.{◌+◌, ◌*◌, ◌<◌, ◌≤◌, max, length, IfOk};
+ghost use Rattle.std.specs.Prelude.{◌≡◌, ◌+◌, ◌*◌, ◌<◌, ◌≤◌, max, length, drop, IfOk, OnErr, MatchResult, Some, None};
+ghost use Rattle.text.specs.Pages.{HasRoom, Continues};
+ghost use Rattle.text.specs.Replies.{reply_room};
+ghost use Rattle.text.specs.Texts.{text_refusal};
 
 use crate::command::Command;
-use crate::reply::write_refusal;
+use crate::lines::Lines;
+use crate::page::Page;
+use crate::reply::Reply;
 use crate::session::Session;
 use policy::refusal::Refusal;
 use roster::traits::Roster;
@@ -10,13 +15,19 @@ use roster::traits::Roster;
 pub const MAX_TEXT: usize = 5000;
 // the bytes of output that each byte of text may need
 pub const OUTPUT_PER_BYTE: usize = 11;
-// the entries of the table that surveys fill, one for each mask of 12 roles
+// the entries of the table that surveys fill, one for each mask of 12 roles; the search, which has that limit, is none of the
+// crates that this one knows
 const SURVEY_TABLE: usize = 4096;
 
 // Executes a plan line by line over the roster, which is emptied first, and writes a line of output for each. Answers how
 // many bytes were written.
 pub fn answer<R: Roster + Drop>(roster: R, text: &[u8], out: &mut [u8]) -> Result<usize, Refusal>
-    ensures { IfOk result (λ written. written ≤ length out.new) }
+    ensures answer { MatchResult result
+        (λ _. None ≡ text_refusal (length text.now) (length out.old))
+        (λ refusal. Some refusal ≡ text_refusal (length text.now) (length out.old)) }
+    ensures written { IfOk result (λ written. written ≤ length out.new) }
+    ensures rest { IfOk result (λ written. drop written out.new ≡ drop written out.old) }
+    ensures kept { OnErr result (out.new ≡ out.old) }
 {
     if text.len() > MAX_TEXT {
         return Err(Refusal::TextTooLong);
@@ -28,57 +39,47 @@ pub fn answer<R: Roster + Drop>(roster: R, text: &[u8], out: &mut [u8]) -> Resul
 }
 
 // Executes every line of the text, one after the other.
-fn answer_lines<R: Roster + Drop>(begun: Session<R>, text: &[u8], out: &mut [u8]) -> usize
+fn answer_lines<R: Roster + Drop>(mut session: Session<R>, text: &[u8], out: &mut [u8]) -> usize
     requires { 11 * length text.now ≤ length out.old }
-    ensures { result ≤ length out.new }
+    ensures written { result ≤ length out.new }
+    ensures rest { drop result out.new ≡ drop result out.old }
 {
-    let mut session = begun;
     let mut table = [None; SURVEY_TABLE];
-    let mut written = 0;
-    let mut number = 0u32;
-    let mut at = 0;
-    while at < text.len() {
-        let end = line_end(text, at);
-        let (next, place) = answer_line(session, &text[at..end], number, &mut table, out, written);
-        session = next;
-        written = place;
-        number = number.saturating_add(1);
-        at = end + 1;
+    let mut page = Page::new(out);
+    for (number, line) in Lines(text).enumerate() {
+        session = answer_line(session, line, number, &mut table, &mut page);
     }
-    written
+    page.written()
 }
 
-// Executes one line, and writes its outcome from that place on.
+// Executes one line, and writes its outcome.
 fn answer_line<R: Roster>(
     session: Session<R>,
     line: &[u8],
-    number: u32,
+    number: usize,
     table: &mut [Option<u64>],
-    out: &mut [u8],
-    at: usize,
-) -> (Session<R>, usize)
-    requires short { at + 11 ≤ length out.old }
-    requires long { at + 11 * length line.now ≤ length out.old }
-    ensures low { at ≤ result.1 }
-    ensures high { result.1 ≤ at + 11 * max 1 (length line.now) }
+    page: &mut Page,
+) -> Session<R>
+    requires { HasRoom page.old (11 * max 1 (length line.now)) }
+    ensures place { page.new.written ≤ page.old.written + 11 * max 1 (length line.now) }
+    ensures page { Continues page.old page.new }
 {
-    let Some(command) = Command::read(line, number) else {
-        return (session, write_refusal(out, at, Refusal::UnreadableLine));
-    };
-    let (next, reply) = session.execute(command, table);
-    (next, reply.write(out, at))
+    let (next, reply) = execute_line(session, line, number, table);
+    reply.write(page);
+    next
 }
 
-// Where the line that begins there ends: at a line feed, or at the end of the text.
-fn line_end(text: &[u8], from: usize) -> usize
-    requires { from < length text.now }
-    ensures low { from ≤ result }
-    ensures high { result ≤ length text.now }
+// Executes one line, and tells its outcome.
+fn execute_line<R: Roster>(
+    session: Session<R>,
+    line: &[u8],
+    number: usize,
+    table: &mut [Option<u64>],
+) -> (Session<R>, Reply)
+    ensures { reply_room result.1 ≤ 11 * max 1 (length line.now) }
 {
-    for at in from..text.len() {
-        if text[at] == b'\n' {
-            return at;
-        }
+    match Command::read(line, number) {
+        Some(command) => session.execute(command, table),
+        None => (session, Reply::Refused(Refusal::UnreadableLine)),
     }
-    text.len()
 }

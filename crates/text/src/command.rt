@@ -2,13 +2,13 @@ ghost use Rattle.std.specs.Prelude.{◌≤◌, length, OnSome};
 
 use crate::line::Line;
 use crate::word::Word;
-use model::call::{Call, DraftCall};
+use model::call::{Call, DraftCall, OfficerAct};
 use policy::kind::Kind;
 use policy::rule::ProposedRule;
 use policy::watch::Watch;
 
 // The kind of toll that a survey asks for.
-#[derive(Clone, Copy)]
+#[derive(Debug, Clone, Copy, PartialEq, Eq)]
 pub enum TollKind {
     Acts,
     Grade,
@@ -16,7 +16,7 @@ pub enum TollKind {
 }
 
 // What a readable line asks for.
-#[derive(Clone, Copy)]
+#[derive(Debug, Clone, Copy, PartialEq, Eq)]
 pub enum Command {
     Draft(DraftCall),
     Force,
@@ -26,62 +26,66 @@ pub enum Command {
 
 impl Command {
     // The command that the line spells, if it is readable. No command is shorter than `tick`.
-    pub fn read(bytes: &[u8], number: u32) -> Option<Command>
+    pub fn read(bytes: &[u8], number: usize) -> Option<Command>
         ensures { OnSome result (4 ≤ length bytes.now) }
     {
         if bytes.len() < 4 {
             return None;
         }
         let mut line = Line::new(bytes, number);
-        let Word::Name { part, .. } = line.word()? else {
+        let Word::Name { part, .. } = line.next()? else {
             return None;
         };
         let command = named(part, &mut line)?;
-        if line.is_over() { Some(command) } else { None }
+        line.is_over().then_some(command)
     }
 }
 
-// The command of that name, with what the line says of it.
+// The command of that name, with what the line says of it. A match, since the commands hold calls of three sorts; a table of
+// functions would need one type for all, and a search for the name.
 fn named(name: &[u8], line: &mut Line) -> Option<Command> {
     match name {
-        b"size" => size(line),
-        b"put" => put(line),
-        b"perm" => perm(line),
-        b"rule" => rule(line),
+        b"size" => size(line).map(Command::Draft),
+        b"put" => put(line).map(Command::Draft),
+        b"perm" => perm(line).map(Command::Draft),
+        b"rule" => rule(line).map(Command::Draft),
         b"force" => Some(Command::Force),
         b"tick" => Some(Command::InForce(Call::Tick)),
-        b"act" => act(line),
-        b"may" => may(line),
+        b"act" => act(line).map(Command::InForce),
+        b"may" => may(line).map(Command::InForce),
         b"survey" => survey(line),
         _ => None,
     }
 }
 
-fn size(line: &mut Line) -> Option<Command> {
+// One reader for each command with numbers: which number is what is all that it says.
+
+fn size(line: &mut Line) -> Option<DraftCall> {
     let [roles, slots, persons] = line.numbers::<3>()?;
-    Some(Command::Draft(DraftCall::Size {
+    Some(DraftCall::Size {
         roles,
         slots,
         persons,
-    }))
+    })
 }
 
-fn put(line: &mut Line) -> Option<Command> {
+fn put(line: &mut Line) -> Option<DraftCall> {
     let [row, role, schedule] = line.numbers::<3>()?;
-    Some(Command::Draft(DraftCall::Put {
+    Some(DraftCall::Put {
         row,
         role,
         schedule,
-    }))
+    })
 }
 
-fn perm(line: &mut Line) -> Option<Command> {
+fn perm(line: &mut Line) -> Option<DraftCall> {
     let [permission, mask] = line.numbers::<2>()?;
-    Some(Command::Draft(DraftCall::Perm { permission, mask }))
+    Some(DraftCall::Perm { permission, mask })
 }
 
-fn rule(line: &mut Line) -> Option<Command> {
-    let kind = kind(line)?;
+// A letter that names no kind is readable, and the draft refuses it.
+fn rule(line: &mut Line) -> Option<DraftCall> {
+    let kind = Kind::try_from(line.letter()?).ok();
     let [
         officer,
         rule_schedule,
@@ -91,7 +95,7 @@ fn rule(line: &mut Line) -> Option<Command> {
         role,
         grade,
     ] = line.numbers::<7>()?;
-    Some(Command::Draft(DraftCall::Rule(ProposedRule {
+    Some(DraftCall::Rule(ProposedRule {
         kind,
         officer,
         rule_schedule,
@@ -100,29 +104,12 @@ fn rule(line: &mut Line) -> Option<Command> {
         role_schedule,
         role,
         grade,
-    })))
+    }))
 }
 
-// A kind is one byte; a byte that names no kind is readable, and the draft refuses it.
-fn kind(line: &mut Line) -> Option<Option<Kind>> {
-    let (Word::Letter { part, .. } | Word::Digits { part, .. }) = line.word()? else {
-        return None;
-    };
-    let [letter] = part else {
-        return None;
-    };
-    Some(match char::from(*letter) {
-        'e' => Some(Kind::Enable),
-        'd' => Some(Kind::Disable),
-        'a' => Some(Kind::Assign),
-        'r' => Some(Kind::Revoke),
-        _ => None,
-    })
-}
-
-fn act(line: &mut Line) -> Option<Command> {
+fn act(line: &mut Line) -> Option<Call> {
     let [rule, officer, target, part] = line.numbers::<4>()?;
-    Some(Command::InForce(Call::Act {
+    Some(Call::Act(OfficerAct {
         rule,
         officer,
         target,
@@ -130,13 +117,14 @@ fn act(line: &mut Line) -> Option<Command> {
     }))
 }
 
-fn may(line: &mut Line) -> Option<Command> {
+fn may(line: &mut Line) -> Option<Call> {
     let [person, permission] = line.numbers::<2>()?;
-    Some(Command::InForce(Call::May { person, permission }))
+    Some(Call::May { person, permission })
 }
 
+// A letter that names no kind of toll is unreadable.
 fn survey(line: &mut Line) -> Option<Command> {
-    let toll = toll(line)?;
+    let toll = TollKind::try_from(line.letter()?).ok()?;
     let [row, slot, permission] = line.numbers::<3>()?;
     Some(Command::Survey {
         toll,
@@ -146,20 +134,4 @@ fn survey(line: &mut Line) -> Option<Command> {
             permission,
         },
     })
-}
-
-// A kind of toll is one letter, and an unknown one is unreadable.
-fn toll(line: &mut Line) -> Option<TollKind> {
-    let Word::Letter { part, .. } = line.word()? else {
-        return None;
-    };
-    let [letter] = part else {
-        return None;
-    };
-    match char::from(*letter) {
-        'a' => Some(TollKind::Acts),
-        'g' => Some(TollKind::Grade),
-        'c' => Some(TollKind::Clock),
-        _ => None,
-    }
 }

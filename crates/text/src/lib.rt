@@ -2,8 +2,12 @@
 
 pub mod answer;
 pub mod command;
-mod decimal;
+pub mod letter;
 pub mod line;
+mod lines;
+mod number;
+mod page;
+mod pieces;
 pub mod reply;
 pub mod session;
 pub mod word;

@@ -1,9 +1,13 @@
-ghost use Rattle.std.specs.Prelude.{◌≡◌, ◌+◌, ◌≤◌, length};
+ghost use Rattle.std.specs.Prelude.{◌+◌, ◌<◌, ◌≤◌};
+ghost use Rattle.text.specs.Pages.{Appends, HasRoom};
+ghost use Rattle.text.specs.Replies.{reply_line, reply_room, reply_text};
 
+use crate::page::Page;
+use model::call::Answer;
 use policy::refusal::Refusal;
 
-// What is printed for a line.
-#[derive(Clone, Copy)]
+// What is printed for a line: a case for each form that a line of output has.
+#[derive(Debug, Clone, Copy, PartialEq, Eq)]
 pub enum Reply {
     Done,
     May(bool),
@@ -15,86 +19,57 @@ pub enum Reply {
 }
 
 impl Reply {
-    // Writes the reply and a line's end from that place on, and answers the place behind them.
-    pub(crate) fn write(self, out: &mut [u8], at: usize) -> usize
-        requires { at + 44 ≤ length out.old }
-        ensures low { at ≤ result }
-        ensures high { result ≤ at + 44 }
+    // Writes the reply and a line's end. No `Display`, for the reason that `Page` gives.
+    pub(crate) fn write(self, page: &mut Page)
+        requires { HasRoom page.old (reply_room self) }
+        ensures line { Appends page.old (reply_line self) page.new }
+        ensures place { page.new.written ≤ page.old.written + reply_room self }
+    {
+        self.write_text(page);
+        page.push(b"\n");
+    }
+
+    // The room is for the line's end too.
+    fn write_text(self, page: &mut Page)
+        requires { HasRoom page.old (reply_room self) }
+        ensures text { Appends page.old (reply_text self) page.new }
+        ensures place { page.new.written < page.old.written + reply_room self }
     {
         match self {
-            Reply::Done => write_bytes(out, at, b"ok\n"),
-            Reply::May(true) => write_bytes(out, at, b"may 1\n"),
-            Reply::May(false) => write_bytes(out, at, b"may 0\n"),
+            Reply::Done => page.push(b"ok"),
+            Reply::May(true) => page.push(b"may 1"),
+            Reply::May(false) => page.push(b"may 0"),
             Reply::Bound { code, reached } => {
-                let word = write_bytes(out, at, b"bound ");
-                let place = write_number(out, word, code);
-                write_reached(out, place, reached)
+                page.push_labelled(b"bound ", code);
+                page.push_labelled(b" reached ", reached);
             }
-            Reply::Never { reached } => {
-                let place = write_bytes(out, at, b"never");
-                write_reached(out, place, reached)
-            }
-            Reply::Refused(refusal) => write_refusal(out, at, refusal),
+            Reply::Never { reached } => page.push_labelled(b"never reached ", reached),
+            Reply::Refused(refusal) => page.push_labelled(b"refused ", refusal.number()),
         }
     }
 }
 
-// Writes how many masks a survey reached, and the line's end.
-fn write_reached(out: &mut [u8], at: usize, reached: u32) -> usize
-    requires { at + 20 ≤ length out.old }
-    ensures low { at ≤ result }
-    ensures high { result ≤ at + 20 }
-{
-    let word = write_bytes(out, at, b" reached ");
-    let place = write_number(out, word, reached);
-    write_bytes(out, place, b"\n")
-}
+impl From<Answer> for Reply {
+    ghost use Rattle.std.specs.Prelude.{◌≡◌};
+    ghost use Rattle.text.specs.Replies.{reply_to};
 
-// Writes a number in decimal digits, with no needless zero, and answers the place behind it.
-fn write_number(out: &mut [u8], at: usize, value: u32) -> usize
-    requires { at + 10 ≤ length out.old }
-    ensures low { at ≤ result }
-    ensures high { result ≤ at + 10 }
-{
-    let mut place = at;
-    let mut power = 1_000_000_000u32;
-    for turn in 0..10u32 {
-        let digit = (value / power) % 10;
-        if digit != 0 || place > at || turn == 9 {
-            out[place] = b'0' + digit as u8;
-            place += 1;
+    ghost from_gives = { λ answer reply. reply ≡ reply_to answer };
+
+    fn from(answer: Answer) -> Reply {
+        match answer {
+            Answer::Done => Reply::Done,
+            Answer::MayUse(may) => Reply::May(may),
         }
-        power = (power / 10).max(1);
     }
-    place
 }
 
-// Writes the bytes from that place on, and answers the place behind them.
-fn write_bytes(out: &mut [u8], at: usize, bytes: &[u8]) -> usize
-    requires { at + length bytes.now ≤ length out.old }
-    ensures { result ≡ at + length bytes.now }
-{
-    let end = at + bytes.len();
-    let place = &mut out[at..end];
-    place.copy_from_slice(bytes);
-    end
-}
+impl From<Result<Reply, Refusal>> for Reply {
+    ghost use Rattle.std.specs.Prelude.{◌≡◌};
+    ghost use Rattle.text.specs.Replies.{reply_or_refused};
 
-// Writes a refusal by its number, which has at most two digits.
-pub(crate) fn write_refusal(out: &mut [u8], at: usize, refusal: Refusal) -> usize
-    requires { at + 11 ≤ length out.old }
-    ensures low { at ≤ result }
-    ensures high { result ≤ at + 11 }
-{
-    let number = refusal.number();
-    let mut place = write_bytes(out, at, b"refused ");
-    if number >= 10 {
-        place = write_bytes(out, place, &[digit(number / 10)]);
+    ghost from_gives = { λ answered reply. reply ≡ reply_or_refused answered };
+
+    fn from(answered: Result<Reply, Refusal>) -> Reply {
+        answered.unwrap_or_else(Reply::Refused)
     }
-    write_bytes(out, place, &[digit(number), b'\n'])
-}
-
-// The last decimal digit of a number.
-fn digit(number: u32) -> u8 {
-    b'0' + (number % 10) as u8
 }

@@ -2,8 +2,7 @@ ghost use Rattle.std.specs.Prelude.{◌≤◌};
 
 use crate::command::{Command, TollKind};
 use crate::reply::Reply;
-use history::take::{take_call, take_draft_call};
-use model::call::{Answer, Call};
+use history::take::TakesCalls;
 use policy::refusal::Refusal;
 use policy::watch::Watch;
 use register::draft::Draft;
@@ -17,7 +16,7 @@ use toll::traits::Toll;
 
 // A plan as far as it was executed: still drafted, or in force.
 #[derive(Drop)]
-pub enum Session<R> {
+pub enum Session<R: Roster> {
     Drafting(Draft<R>),
     InForce(Register<R>),
 }
@@ -28,11 +27,15 @@ impl<R: Roster> Session<R> {
         Session::Drafting(Draft::begin(roster))
     }
 
-    // Executes a line's command and answers it. A survey fills the table.
+    // Executes a line's command and answers it. A survey fills the table. Stage and command are matched: each case holds a value
+    // of its own type, and `force` moves a draft out.
     pub fn execute(self, command: Command, table: &mut [Option<u64>]) -> (Session<R>, Reply) {
         match self {
             Session::Drafting(draft) => execute_drafting(draft, command),
-            Session::InForce(register) => execute_in_force(register, command, table),
+            Session::InForce(mut register) => {
+                let reply = execute_in_force(&mut register, command, table);
+                (Session::InForce(register), reply.into())
+            }
         }
     }
 }
@@ -40,11 +43,8 @@ impl<R: Roster> Session<R> {
 fn execute_drafting<R: Roster>(mut draft: Draft<R>, command: Command) -> (Session<R>, Reply) {
     match command {
         Command::Draft(call) => {
-            let reply = match take_draft_call(&mut draft, call) {
-                Ok(()) => Reply::Done,
-                Err(refusal) => Reply::Refused(refusal),
-            };
-            (Session::Drafting(draft), reply)
+            let reply = draft.take(call).map(|()| Reply::Done);
+            (Session::Drafting(draft), reply.into())
         }
         Command::Force => (Session::InForce(draft.force()), Reply::Done),
         Command::InForce(_) | Command::Survey { .. } => (
@@ -54,28 +54,20 @@ fn execute_drafting<R: Roster>(mut draft: Draft<R>, command: Command) -> (Sessio
     }
 }
 
+// A kind of toll is a type, so each has its own arm; a closure cannot take a type.
 fn execute_in_force<R: Roster>(
-    mut register: Register<R>,
+    register: &mut Register<R>,
     command: Command,
     table: &mut [Option<u64>],
-) -> (Session<R>, Reply) {
-    let reply = match command {
-        Command::InForce(call) => called(&mut register, call),
+) -> Result<Reply, Refusal> {
+    match command {
+        Command::InForce(call) => register.take(call).map(Reply::from),
         Command::Survey { toll, watch } => match toll {
-            TollKind::Acts => surveyed::<R, Acts>(&register, watch, table),
-            TollKind::Grade => surveyed::<R, Grade>(&register, watch, table),
-            TollKind::Clock => surveyed::<R, Clock>(&register, watch, table),
+            TollKind::Acts => surveyed::<R, Acts>(register, watch, table),
+            TollKind::Grade => surveyed::<R, Grade>(register, watch, table),
+            TollKind::Clock => surveyed::<R, Clock>(register, watch, table),
         },
-        Command::Draft(_) | Command::Force => Reply::Refused(Refusal::WrongStage),
-    };
-    (Session::InForce(register), reply)
-}
-
-fn called<R: Roster>(register: &mut Register<R>, call: Call) -> Reply {
-    match take_call(register, call) {
-        Ok(Answer::Done) => Reply::Done,
-        Ok(Answer::MayUse(may)) => Reply::May(may),
-        Err(refusal) => Reply::Refused(refusal),
+        Command::Draft(_) | Command::Force => Err(Refusal::WrongStage),
     }
 }
 
@@ -84,17 +76,16 @@ fn surveyed<R: Roster, K: Toll>(
     register: &Register<R>,
     watch: Watch,
     table: &mut [Option<u64>],
-) -> Reply
-    requires { K.Toll.kind.width ≤ 32 }
+) -> Result<Reply, Refusal>
+    requires { K.kind.width ≤ 32 }
 {
-    match register.survey::<K>(watch, table) {
-        Ok(survey) => reply_of(survey),
-        Err(refusal) => Reply::Refused(refusal),
-    }
+    let survey = register.survey::<K>(watch, table)?;
+    Ok(reply_of(survey))
 }
 
+// No `From`, which may ask for nothing: the codes have to fit 32 bits here.
 fn reply_of<K: Toll>(survey: Survey<K>) -> Reply
-    requires { K.Toll.kind.width ≤ 32 }
+    requires { K.kind.width ≤ 32 }
 {
     let reached = survey.reached;
     match survey.bound {

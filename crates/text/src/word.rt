@@ -1,18 +1,27 @@
-// A word of a line: a part of the text, with the number of its line.
-#[derive(Clone, Copy)]
+ghost use Rattle.std.specs.Prelude.{◌≡◌};
+ghost use Rattle.text.specs.Words.{HasItsCase, part_of};
+
+use crate::number::all_digits;
+
+// A word of a line: a part of the text, with the number of its line. Each case holds both, so that a word tells by itself where
+// it stood.
+#[derive(Debug, Clone, Copy, PartialEq, Eq)]
 pub enum Word<'a> {
     // decimal digits and nothing else
-    Digits { part: &'a [u8], line: u32 },
+    Digits { part: &'a [u8], line: usize },
     // a single byte that is no digit, as the letter of a kind
-    Letter { part: &'a [u8], line: u32 },
+    Letter { part: &'a [u8], line: usize },
     // anything else, as the name of a command; also no byte at all
-    Name { part: &'a [u8], line: u32 },
+    Name { part: &'a [u8], line: usize },
 }
 
 impl<'a> Word<'a> {
     // The word that those bytes of the line are.
-    pub fn of(part: &'a [u8], line: u32) -> Word<'a> {
-        if is_digits(part) {
+    pub fn of(part: &'a [u8], line: usize) -> Word<'a>
+        ensures part { part_of result ≡ part.now }
+        ensures case { HasItsCase result }
+    {
+        if !part.is_empty() && all_digits(part) {
             Word::Digits { part, line }
         } else if part.len() == 1 {
             Word::Letter { part, line }
@@ -20,14 +29,4 @@ impl<'a> Word<'a> {
             Word::Name { part, line }
         }
     }
-}
-
-// Whether there are only decimal digits, at least one.
-fn is_digits(part: &[u8]) -> bool {
-    for byte in part {
-        if !byte.is_ascii_digit() {
-            return false;
-        }
-    }
-    !part.is_empty()
 }

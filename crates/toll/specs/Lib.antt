@@ -1,9 +1,8 @@
 pub mod Tolls
 pub mod Readings
-pub mod ActsTolls
-pub mod GradeTolls
-pub mod ClockTolls
+pub mod Counts
+pub mod CountedTolls
 pub mod Walks
 pub mod Next
 pub mod Numbered
-pub mod ValuesLemmas
+pub mod CountedLaws

@@ -1,11 +1,10 @@
 #![tactic(auto)]
 
 pub mod acts;
-pub mod acts_toll;
 pub mod clock;
-pub mod clock_toll;
+pub mod count;
+pub mod counted;
 pub mod grade;
-pub mod grade_toll;
 pub mod limits;
 pub mod readings;
 pub mod traits;

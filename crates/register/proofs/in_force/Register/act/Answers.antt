@@ -6,12 +6,12 @@ use Rattle.register.proofs.in_force.Register.act.Goals as goal
 
 pub returns : goal.returns
 returns g c =
-    let st = state_of g.R.Roster.held c.args.self.now in
+    let st = state_of c.args.self.now in
     let told = c.attempt.ensures in
     record {
       answer = told.answer;
       after = told.after;
       kept = told.kept;
-      allowed = told_allowed st (formed g.R.Roster.held c.args.self.now) c.args.rule c.args.officer c.args.target c.args.part c.attempt.result told.answer;
-      changes = told_changed st (state_of g.R.Roster.held c.attempt.new.self) c.args.rule c.args.officer c.args.target c.args.part c.attempt.result told.answer told.after;
+      allowed = told_allowed st (formed c.args.self.now) c.args.act c.attempt.result told.answer;
+      changes = told_changed st (state_of c.attempt.new.self) c.args.act c.attempt.result told.answer told.after;
     }

@@ -1,16 +1,11 @@
-use Rattle.std.proofs.Common.{sym, ◌∙◌}
+use Rattle.std.proofs.Common.{refl, rules, arith}
+use Rattle.std.proofs.lemmas.Iterator.{YieldsList-from_range}
+use Rattle.std.proofs.lemmas.Iterator.Search.{all_from_yields_List}
 use Rattle.model.specs.Acts.{meets_at}
 use Rattle.register.specs.Memory.{state_of}
-use Rattle.model.proofs.Every.{every_more, every_fails}
 use Rattle.register.proofs.in_force.Register.meets_in.Goals as goal
 
-pub loop-slot-preserved : goal.loop-slot-preserved
-loop-slot-preserved g c =
-    every_more c.loop-slot.slot (meets_at (state_of g.R.Roster.held c.args.self.now).held c.args.rule c.args.target c.args.part)
-    (sym c.meets_at.ensures ∙ c.if-not-meets_at.false) c.loop-slot.invariant
-
-pub returns-then-not-meets_at : goal.returns-then-not-meets_at
-returns-then-not-meets_at g c =
-    every_fails c.args.self.now.table.slots (meets_at (state_of g.R.Roster.held c.args.self.now).held c.args.rule c.args.target c.args.part)
-    c.loop-slot.slot c.loop-slot-test.true
-    (sym c.meets_at.ensures ∙ c.if-not-meets_at.true)
+pub returns : goal.returns
+returns g c =
+    all_from_yields_List (meets_at (state_of c.args.self.now).held c.args.rule c.args.act.target c.args.act.part) _ _ _ c.all.ensures.ran
+    (YieldsList-from_range 0 c.args.self.now.table.sizes.slots c.args.self.now.table.sizes.slots refl (omega arith)) (λ x b q k. search rules)

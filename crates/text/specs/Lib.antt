@@ -1,0 +1,6 @@
+pub mod Letters
+pub mod Pieces
+pub mod Words
+pub mod Replies
+pub mod Pages
+pub mod Texts
