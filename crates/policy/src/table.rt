@@ -1,4 +1,4 @@
-ghost use Rattle.std.specs.Prelude.{◌≡◌, ◌<◌, ◌^◌, length};
+ghost use Rattle.std.specs.Prelude.{◌≡◌, ◌<◌, ◌≤◌, ◌^◌, length};
 ghost use Rattle.policy.specs.Policies.{MasksFit, AllProper};
 
 use crate::kind::Kind;
@@ -17,12 +17,13 @@ pub struct PolicyTable {
     pub sizes: Sizes,
     permissions: [u16; PERMISSIONS],
     rules: ArrayVec<Rule, MAX_RULES>,
+    ghost few_rules: { length rules.items ≤ 64 },
     ghost masks_fit: { MasksFit sizes.roles permissions },
     ghost proper: { AllProper sizes.roles sizes.slots rules.items },
 }
 
 impl PolicyTable {
-    ghost use Rattle.std.specs.Prelude.{MatchResult, None, slice_get};
+    ghost use Rattle.std.specs.Prelude.{MatchResult, None, OnSome, slice_get};
     ghost use Rattle.policy.specs.Policies.{blank, as_proposed, permission_mask, with_rule, with_permission, with_proposed, schedule_fits, mask_fits, permission_tests, rule_tests, proposed_roles_fit, proposed_schedules_fit, proposal_tests};
     ghost use Rattle.policy.specs.Refusals.{first_failing, answered};
     ghost use Rattle.policy.specs.Tables.{policy_of};
@@ -75,7 +76,8 @@ impl PolicyTable {
 
     // The rule with that number.
     pub fn rule(&self, number: u32) -> Option<Rule>
-        ensures { result ≡ slice_get (policy_of self.now).rules number }
+        ensures answer { result ≡ slice_get (policy_of self.now).rules number }
+        ensures few { OnSome result (number < 64) }
     {
         self.rules().get(number as usize).copied()
     }

@@ -1,3 +1,3 @@
 pub mod Masks
-mod Tables
+pub mod Tables
 mod Rows
