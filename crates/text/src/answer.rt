@@ -1,6 +1,5 @@
 ghost use Rattle.std.specs.Prelude.{◌≡◌, ◌+◌, ◌*◌, ◌<◌, ◌≤◌, max, length, drop, IfOk, OnErr, MatchResult, Some, None};
 ghost use Rattle.text.specs.Pages.{HasRoom, Continues};
-ghost use Rattle.text.specs.Replies.{reply_room};
 ghost use Rattle.text.specs.Texts.{text_refusal};
 
 use crate::command::Command;
@@ -47,6 +46,7 @@ fn answer_lines<R: Roster + Drop>(mut session: Session<R>, text: &[u8], out: &mu
     let mut table = [None; SURVEY_TABLE];
     let mut page = Page::new(out);
     for (number, line) in Lines(text).enumerate() {
+        let number = u32::try_from(number).unwrap_or(u32::MAX);
         session = answer_line(session, line, number, &mut table, &mut page);
     }
     page.written()
@@ -56,7 +56,7 @@ fn answer_lines<R: Roster + Drop>(mut session: Session<R>, text: &[u8], out: &mu
 fn answer_line<R: Roster>(
     session: Session<R>,
     line: &[u8],
-    number: usize,
+    number: u32,
     table: &mut [Option<u64>],
     page: &mut Page,
 ) -> Session<R>
@@ -64,22 +64,11 @@ fn answer_line<R: Roster>(
     ensures place { page.new.written ≤ page.old.written + 11 * max 1 (length line.now) }
     ensures page { Continues page.old page.new }
 {
-    let (next, reply) = execute_line(session, line, number, table);
+    let Some(command) = Command::read(line, number) else {
+        Reply::Refused(Refusal::UnreadableLine).write(page);
+        return session;
+    };
+    let (next, reply) = session.execute(command, table);
     reply.write(page);
     next
-}
-
-// Executes one line, and tells its outcome.
-fn execute_line<R: Roster>(
-    session: Session<R>,
-    line: &[u8],
-    number: usize,
-    table: &mut [Option<u64>],
-) -> (Session<R>, Reply)
-    ensures { reply_room result.1 ≤ 11 * max 1 (length line.now) }
-{
-    match Command::read(line, number) {
-        Some(command) => session.execute(command, table),
-        None => (session, Reply::Refused(Refusal::UnreadableLine)),
-    }
 }

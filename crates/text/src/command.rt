@@ -26,7 +26,7 @@ pub enum Command {
 
 impl Command {
     // The command that the line spells, if it is readable. No command is shorter than `tick`.
-    pub fn read(bytes: &[u8], number: usize) -> Option<Command>
+    pub fn read(bytes: &[u8], number: u32) -> Option<Command>
         ensures { OnSome result (4 ≤ length bytes.now) }
     {
         if bytes.len() < 4 {

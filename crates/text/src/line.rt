@@ -13,11 +13,11 @@ use crate::word::Word;
 pub struct Line<'a> {
     // what stands behind the last space that was read; absent once the last word was read
     rest: Option<&'a [u8]>,
-    number: usize,
+    number: u32,
 }
 
 impl<'a> Line<'a> {
-    pub fn new(bytes: &'a [u8], number: usize) -> Line<'a>
+    pub fn new(bytes: &'a [u8], number: u32) -> Line<'a>
         ensures { words_left result.rest ≡ words_of bytes.now }
     {
         Line {

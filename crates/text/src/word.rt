@@ -8,16 +8,16 @@ use crate::number::all_digits;
 #[derive(Debug, Clone, Copy, PartialEq, Eq)]
 pub enum Word<'a> {
     // decimal digits and nothing else
-    Digits { part: &'a [u8], line: usize },
+    Digits { part: &'a [u8], line: u32 },
     // a single byte that is no digit, as the letter of a kind
-    Letter { part: &'a [u8], line: usize },
+    Letter { part: &'a [u8], line: u32 },
     // anything else, as the name of a command; also no byte at all
-    Name { part: &'a [u8], line: usize },
+    Name { part: &'a [u8], line: u32 },
 }
 
 impl<'a> Word<'a> {
     // The word that those bytes of the line are.
-    pub fn of(part: &'a [u8], line: usize) -> Word<'a>
+    pub fn of(part: &'a [u8], line: u32) -> Word<'a>
         ensures part { part_of result ≡ part.now }
         ensures case { HasItsCase result }
     {
