@@ -1,4 +1,6 @@
-ghost use Rattle.std.specs.Prelude.{◌≤◌, length, OnSome};
+ghost use Rattle.std.specs.Prelude.{◌≡◌, ◌≤◌, ◌∷◌, [], ◌++◌, codes, decimal, length, map, IfSome, OnSome};
+ghost use Rattle.text.specs.Commands.{Spells, SpellsCall, SpellsDraft};
+ghost use Rattle.text.specs.Pieces.{words_left, words_of};
 
 use crate::line::Line;
 use crate::word::Word;
@@ -27,7 +29,8 @@ pub enum Command {
 impl Command {
     // The command that the line spells, if it is readable. No command is shorter than `tick`.
     pub fn read(bytes: &[u8], number: u32) -> Option<Command>
-        ensures { OnSome result (4 ≤ length bytes.now) }
+        ensures long { OnSome result (4 ≤ length bytes.now) }
+        ensures spelled { IfSome result (λ command. Spells command (words_of bytes.now) []) }
     {
         if bytes.len() < 4 {
             return None;
@@ -43,7 +46,10 @@ impl Command {
 
 // The command of that name, with what the line says of it. A match, since the commands hold calls of three sorts; a table of
 // functions would need one type for all, and a search for the name.
-fn named(name: &[u8], line: &mut Line) -> Option<Command> {
+fn named(name: &[u8], line: &mut Line) -> Option<Command>
+    ensures { IfSome result (λ command. Spells command (name.now ∷ words_left line.old.rest)
+        (words_left line.new.rest)) }
+{
     match name {
         b"size" => size(line).map(Command::Draft),
         b"put" => put(line).map(Command::Draft),
@@ -60,7 +66,10 @@ fn named(name: &[u8], line: &mut Line) -> Option<Command> {
 
 // One reader for each command with numbers: which number is what is all that it says.
 
-fn size(line: &mut Line) -> Option<DraftCall> {
+fn size(line: &mut Line) -> Option<DraftCall>
+    ensures { IfSome result (λ call. SpellsDraft call (codes "size" ∷ words_left line.old.rest)
+        (words_left line.new.rest)) }
+{
     let [roles, slots, persons] = line.numbers::<3>()?;
     Some(DraftCall::Size {
         roles,
@@ -69,7 +78,10 @@ fn size(line: &mut Line) -> Option<DraftCall> {
     })
 }
 
-fn put(line: &mut Line) -> Option<DraftCall> {
+fn put(line: &mut Line) -> Option<DraftCall>
+    ensures { IfSome result (λ call. SpellsDraft call (codes "put" ∷ words_left line.old.rest)
+        (words_left line.new.rest)) }
+{
     let [row, role, schedule] = line.numbers::<3>()?;
     Some(DraftCall::Put {
         row,
@@ -78,13 +90,19 @@ fn put(line: &mut Line) -> Option<DraftCall> {
     })
 }
 
-fn perm(line: &mut Line) -> Option<DraftCall> {
+fn perm(line: &mut Line) -> Option<DraftCall>
+    ensures { IfSome result (λ call. SpellsDraft call (codes "perm" ∷ words_left line.old.rest)
+        (words_left line.new.rest)) }
+{
     let [permission, mask] = line.numbers::<2>()?;
     Some(DraftCall::Perm { permission, mask })
 }
 
 // A letter that names no kind is readable, and the draft refuses it.
-fn rule(line: &mut Line) -> Option<DraftCall> {
+fn rule(line: &mut Line) -> Option<DraftCall>
+    ensures { IfSome result (λ call. SpellsDraft call (codes "rule" ∷ words_left line.old.rest)
+        (words_left line.new.rest)) }
+{
     let kind = Kind::try_from(line.letter()?).ok();
     let [
         officer,
@@ -107,7 +125,10 @@ fn rule(line: &mut Line) -> Option<DraftCall> {
     }))
 }
 
-fn act(line: &mut Line) -> Option<Call> {
+fn act(line: &mut Line) -> Option<Call>
+    ensures { IfSome result (λ call. SpellsCall call (codes "act" ∷ words_left line.old.rest)
+        (words_left line.new.rest)) }
+{
     let [rule, officer, target, part] = line.numbers::<4>()?;
     Some(Call::Act(OfficerAct {
         rule,
@@ -117,13 +138,19 @@ fn act(line: &mut Line) -> Option<Call> {
     }))
 }
 
-fn may(line: &mut Line) -> Option<Call> {
+fn may(line: &mut Line) -> Option<Call>
+    ensures { IfSome result (λ call. SpellsCall call (codes "may" ∷ words_left line.old.rest)
+        (words_left line.new.rest)) }
+{
     let [person, permission] = line.numbers::<2>()?;
     Some(Call::May { person, permission })
 }
 
 // A letter that names no kind of toll is unreadable.
-fn survey(line: &mut Line) -> Option<Command> {
+fn survey(line: &mut Line) -> Option<Command>
+    ensures { IfSome result (λ command. Spells command (codes "survey" ∷ words_left line.old.rest)
+        (words_left line.new.rest)) }
+{
     let toll = TollKind::try_from(line.letter()?).ok()?;
     let [row, slot, permission] = line.numbers::<3>()?;
     Some(Command::Survey {
