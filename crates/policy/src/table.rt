@@ -17,9 +17,9 @@ pub struct PolicyTable {
     pub sizes: Sizes,
     permissions: [u16; PERMISSIONS],
     rules: ArrayVec<Rule, MAX_RULES>,
-    ghost few_rules: { length rules.items ≤ 64 },
     ghost masks_fit: { MasksFit sizes.roles permissions },
     ghost proper: { AllProper sizes.roles sizes.slots rules.items },
+    ghost few_rules: { length rules.items ≤ 64 },
 }
 
 impl PolicyTable {
