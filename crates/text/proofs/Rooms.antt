@@ -1,5 +1,5 @@
 -- How much the lines of a text may take on a page.
-use Rattle.std.proofs.Common.{ℕ, ◌+◌, ◌*◌, ◌-◌, ◌≤◌, ◌==◌, max, true, false, if◌then◌else◌, List, [], ◌∷◌, length, ◌∙◌, arith}
+use Rattle.std.proofs.Common.{◌≡◌, ℕ, ◌+◌, ◌*◌, ◌-◌, ◌≤◌, ◌==◌, max, true, false, if◌then◌else◌, List, [], ◌∷◌, length, ap, ◌∙◌, arith}
 use Rattle.std.specs.List.{onto_first}
 use Rattle.text.specs.declared.page.Page.{Page}
 use Rattle.text.specs.Pages.{Continues}
@@ -39,4 +39,18 @@ continues_both old mid new p q = record {
   size = q.size ∙ p.size;
   rest = q.rest ∙ same_behind mid.written (new.written - mid.written) new.written mid.out.now old.out.now p.rest (omega (arith, q.grows));
   same = q.same ∙ p.same;
+}
+
+-- what holds between two lines, once so many of the text's lines are answered: the others, and the room that they need
+pub record Between (text answered : ℕ) (first : Page) (others : List (List ℕ)) (page : Page) : Type 0 where
+  pub count : answered + length others ≤ text
+  pub room : page.written + room_for others ≤ length page.out.now
+  pub continues : Continues first page
+
+pub one_more : (text answered answered' : ℕ) (first page page' : Page) (line : List ℕ) (others others' : List (List ℕ)) → Between text answered first others page
+    → others ≡ line ∷ others' → answered' ≡ answered + 1 → page'.written ≤ page.written + 11 * max 1 (length line) → Continues page page' → Between text answered' first others' page'
+one_more text answered answered' first page page' line others others' held steps next place continued = record {
+  count = omega (arith, held.count, ap length steps, next);
+  room = omega (arith, held.room, ap room_for steps, place, continued.size);
+  continues = continues_both first page page' held.continues continued;
 }

@@ -47,28 +47,30 @@ fn answer_lines<R: Roster + Drop>(mut session: Session<R>, text: &[u8], out: &mu
     let mut page = Page::new(out);
     for (number, line) in Lines(text).enumerate() {
         let number = u32::try_from(number).unwrap_or(u32::MAX);
-        session = answer_line(session, line, number, &mut table, &mut page);
+        let forces = answer_line(&mut session, line, number, &mut table, &mut page);
+        if forces {
+            session = session.put_in_force();
+        }
     }
     page.written()
 }
 
-// Executes one line, and writes its outcome.
+// Executes one line, and writes its outcome. Whether the plan is to be put in force.
 fn answer_line<R: Roster>(
-    session: Session<R>,
+    session: &mut Session<R>,
     line: &[u8],
     number: u32,
     table: &mut [Option<u64>],
     page: &mut Page,
-) -> Session<R>
+) -> bool
     requires { HasRoom page.old (11 * max 1 (length line.now)) }
     ensures place { page.new.written ≤ page.old.written + 11 * max 1 (length line.now) }
     ensures page { Continues page.old page.new }
 {
     let Some(command) = Command::read(line, number) else {
         Reply::Refused(Refusal::UnreadableLine).write(page);
-        return session;
+        return false;
     };
-    let (next, reply) = session.execute(command, table);
-    reply.write(page);
-    next
+    session.take(command, table).write(page);
+    matches!(command, Command::Force)
 }

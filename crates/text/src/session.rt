@@ -27,35 +27,44 @@ impl<R: Roster> Session<R> {
         Session::Drafting(Draft::begin(roster))
     }
 
-    // Executes a line's command and answers it. A survey fills the table. Stage and command are matched: each case holds a value
-    // of its own type, and `force` moves a draft out.
-    pub fn execute(self, command: Command, table: &mut [Option<u64>]) -> (Session<R>, Reply) {
+    // Executes a line's command and answers it. A survey fills the table.
+    pub fn execute(mut self, command: Command, table: &mut [Option<u64>]) -> (Session<R>, Reply) {
+        let reply = self.take(command, table);
+        if matches!(command, Command::Force) {
+            self = self.put_in_force();
+        }
+        (self, reply)
+    }
+
+    // Takes a command in place and answers it; whoever takes `force` then puts the plan in force. Stage and command are matched:
+    // each case holds a value of its own type.
+    pub(crate) fn take(&mut self, command: Command, table: &mut [Option<u64>]) -> Reply {
+        let reply = match self {
+            Session::Drafting(draft) => take_drafting(draft, command),
+            Session::InForce(register) => take_in_force(register, command, table),
+        };
+        reply.into()
+    }
+
+    // The plan in force. Only this moves a draft or a register, some three kilobytes.
+    pub(crate) fn put_in_force(self) -> Session<R> {
         match self {
-            Session::Drafting(draft) => execute_drafting(draft, command),
-            Session::InForce(mut register) => {
-                let reply = execute_in_force(&mut register, command, table);
-                (Session::InForce(register), reply.into())
-            }
+            Session::Drafting(draft) => Session::InForce(draft.force()),
+            Session::InForce(register) => Session::InForce(register),
         }
     }
 }
 
-fn execute_drafting<R: Roster>(mut draft: Draft<R>, command: Command) -> (Session<R>, Reply) {
+fn take_drafting<R: Roster>(draft: &mut Draft<R>, command: Command) -> Result<Reply, Refusal> {
     match command {
-        Command::Draft(call) => {
-            let reply = draft.take(call).map(|()| Reply::Done);
-            (Session::Drafting(draft), reply.into())
-        }
-        Command::Force => (Session::InForce(draft.force()), Reply::Done),
-        Command::InForce(_) | Command::Survey { .. } => (
-            Session::Drafting(draft),
-            Reply::Refused(Refusal::WrongStage),
-        ),
+        Command::Draft(call) => draft.take(call).map(|()| Reply::Done),
+        Command::Force => Ok(Reply::Done),
+        Command::InForce(_) | Command::Survey { .. } => Err(Refusal::WrongStage),
     }
 }
 
 // A kind of toll is a type, so each has its own arm; a closure cannot take a type.
-fn execute_in_force<R: Roster>(
+fn take_in_force<R: Roster>(
     register: &mut Register<R>,
     command: Command,
     table: &mut [Option<u64>],

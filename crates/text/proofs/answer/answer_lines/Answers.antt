@@ -1,7 +1,7 @@
-use Rattle.std.proofs.Common.{◌≡◌, ◌+◌, ◌≤◌, length, ap, refl, inl, arith, rules}
+use Rattle.std.proofs.Common.{◌≡◌, ◌+◌, ◌≤◌, length, refl, inl, arith, rules}
 use Rattle.std.specs.Iterator.Adapters.{enumerate_source, enumerate_count}
 use Rattle.text.specs.Pieces.{lines_of}
-use Rattle.text.proofs.Rooms.{room_for, room-lines_of, count-lines_of, continues_both}
+use Rattle.text.proofs.Rooms.{one_more, room-lines_of, count-lines_of}
 use Rattle.text.proofs.answer.answer_lines.Given.{Over}
 use Rattle.text.proofs.answer.answer_lines.Goals as goal
 
@@ -21,21 +21,21 @@ loop-number-init g c =
     record {
       can = (tt, tt, inl (omega (arith, few g c)));
       ends = tt;
-      count = few g c;
-      room = rw (all, c.new-page.ensures.bytes, c.new-page.ensures.empty) (omega (arith, c.requires, room-lines_of c.args.text.now));
-      page = record { grows = omega arith; size = refl; rest = refl; same = refl };
+      between = record {
+        count = few g c;
+        room = rw (all, c.new-page.ensures.bytes, c.new-page.ensures.empty) (omega (arith, c.requires, room-lines_of c.args.text.now));
+        continues = record { grows = omega arith; size = refl; rest = refl; same = refl };
+      };
     }
 
 pub loop-number-preserved : goal.loop-number-preserved
 loop-number-preserved g c =
     let steps = c.in-Some.ensures.steps in
-    let held = c.loop-number.invariant in
-    let count = ap length steps.0 in
-    let room = ap room_for steps.0 in
-    record {
-      can = (tt, tt, inl (omega (arith, held.count, count, steps.2)));
-      ends = tt;
-      count = omega (arith, held.count, count, steps.2);
-      room = omega (arith, held.room, room, c.answer_line-session.ensures.place, c.answer_line-session.ensures.page.size);
-      page = continues_both c.new-page.result c.loop-number.page c.answer_line-session.new.page held.page c.answer_line-session.ensures.page;
-    }
+    let between = one_more _ _ _ _ _ _ c.in-Some.line.now _ _ c.loop-number.invariant.between steps.0 (omega (arith, steps.2)) c.answer_line-forces.ensures.place c.answer_line-forces.ensures.page in
+    record { can = (tt, tt, inl (omega (arith, between.count))); ends = tt; between = between }
+
+pub loop-number-preserved-then-forces : goal.loop-number-preserved-then-forces
+loop-number-preserved-then-forces g c =
+    let steps = c.in-Some.ensures.steps in
+    let between = one_more _ _ _ _ _ _ c.in-Some.line.now _ _ c.loop-number.invariant.between steps.0 (omega (arith, steps.2)) c.answer_line-forces.ensures.place c.answer_line-forces.ensures.page in
+    record { can = (tt, tt, inl (omega (arith, between.count))); ends = tt; between = between }
